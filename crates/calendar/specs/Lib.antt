@@ -1,0 +1,4 @@
+pub mod Kinds
+pub mod Marked
+pub mod Ruled
+pub mod Spans
