@@ -7,19 +7,16 @@ use native.Mathlib.Nat.{add-zero, add-suc}
 use native.Mathlib.Omega.{arith}
 use native.Mathlib.Numerals.{add-one}
 use lib.ListN.{length}
-use lib.Dec.{leb}
-use borrow.Author.Tests.{le-leb}
 use Rattle.std.proofs.shelf.Lists.{append-nil, length-append}
 use Rattle.std.specs.Iters.{counting}
 use Rattle.std.specs.shelf.Lists.{kept-by}
 use Rattle.std.specs.declared.option.Option.{Option}
 use Rattle.std.specs.declared.option.Option.the-variants.{Some, None}
 use Rattle.std.specs.Slices.{found}
-use Rattle.dates.specs.Months.{firstDay, monthLength}
-use Rattle.dates.proofs.MonthLaws.{first-day-suc, first-day-grows, days-end as months-end}
 use Rattle.calendar.specs.declared.kind.DayKind.{DayKind}
 use Rattle.calendar.specs.declared.kind.DayKind.the-variants.{Closed, Reserve, Session}
-use Rattle.calendar.specs.Spans.{isReserve, isSession, daysBy, reserveDays, firstOf, firstSession, First, expiryOf}
+use Rattle.calendar.specs.Kinds.{isReserve, isSession}
+use Rattle.calendar.specs.Spans.{daysBy, reserveDays, firstOf, firstSession, First}
 
 -- an empty range has no days
 pub days-none : (t : DayKind → Bool) (k : ℕ → DayKind) (from to : ℕ) → to ≤ from → daysBy t k from to ≡ []
@@ -110,19 +107,14 @@ count-more t k from day h =
     one true = refl
     one false = refl
 
-not-session : (k : DayKind) → (k ≡ Session → ⊥) → isSession k ≡ false
-not-session Closed other = refl
-not-session Reserve other = refl
-not-session Session other = absurd (other refl)
-
 -- the search for the first session, one day on
-pub session-here : (k : ℕ → DayKind) (from to : ℕ) → from < to → k from ≡ Session → firstSession k from to ≡ Some from
+pub session-here : (k : ℕ → DayKind) (from to : ℕ) → from < to → isSession (k from) ≡ true → firstSession k from to ≡ Some from
 session-here k from to h e =
-    ap firstOf (days-head isSession k from to h ∙ ap (λ b. cond b (from ∷ daysBy isSession k (from + 1) to) (daysBy isSession k (from + 1) to)) (ap isSession e))
+    ap firstOf (days-head isSession k from to h ∙ ap (λ b. cond b (from ∷ daysBy isSession k (from + 1) to) (daysBy isSession k (from + 1) to)) e)
 
-pub session-later : (k : ℕ → DayKind) (from to : ℕ) → from < to → (k from ≡ Session → ⊥) → firstSession k from to ≡ firstSession k (from + 1) to
+pub session-later : (k : ℕ → DayKind) (from to : ℕ) → from < to → isSession (k from) ≡ false → firstSession k from to ≡ firstSession k (from + 1) to
 session-later k from to h e =
-    ap firstOf (days-head isSession k from to h ∙ ap (λ b. cond b (from ∷ daysBy isSession k (from + 1) to) (daysBy isSession k (from + 1) to)) (not-session (k from) e))
+    ap firstOf (days-head isSession k from to h ∙ ap (λ b. cond b (from ∷ daysBy isSession k (from + 1) to) (daysBy isSession k (from + 1) to)) e)
 
 pub session-none : (k : ℕ → DayKind) (from to : ℕ) → to ≤ from → firstSession k from to ≡ None
 session-none k from to h = ap firstOf (days-none isSession k from to h)
@@ -131,20 +123,10 @@ past-last : (k : ℕ → DayKind) → ((d : ℕ) → 36524 < d → k d ≡ Close
 past-last k ends t e d h = ap t (ends d (omega arith)) ∙ e
 
 -- a count that stops at the end of the calendar
-pub count-ends : (k : ℕ → DayKind) → ((d : ℕ) → 36524 < d → k d ≡ Closed) → (from to end day count : ℕ) → end ≡ min to 36525
-  → end ≤ day → (from ≤ end → day ≤ end) → count ≡ length (reserveDays k from day) → (end ≤ from → count ≡ 0)
-  → count ≡ length (reserveDays k from to)
-count-ends k ends from to end day count e past upto is none = by (end - from) refl
-  where
-    whole : daysBy isReserve k from to ≡ daysBy isReserve k from end
-    whole = days-end isReserve k 36525 from to (past-last k ends isReserve refl) ∙ ap (daysBy isReserve k from) (sym e)
-    by : (n : ℕ) → end - from ≡ n → count ≡ length (reserveDays k from to)
-    by zero f = none (omega arith) ∙ sym (ap length (whole ∙ days-none isReserve k from end (omega arith)))
-    by (suc n) f =
-        let d : from ≤ end = omega arith in
-        let u = upto d in
-        let s : day ≡ end = omega arith in
-        is ∙ ap (λ x. length (daysBy isReserve k from x)) s ∙ sym (ap length whole)
+pub count-ends : (k : ℕ → DayKind) → ((d : ℕ) → 36524 < d → k d ≡ Closed) → (from end to count : ℕ) → count ≡ length (reserveDays k from end)
+  → end ≡ min to 36525 → count ≡ length (reserveDays k from to)
+count-ends k ends from end to count is e =
+    is ∙ sym (ap length (days-end isReserve k 36525 from to (past-last k ends isReserve refl) ∙ ap (daysBy isReserve k from) (sym e)))
 
 -- a search that stops at the end of the calendar
 pub session-ends : (k : ℕ → DayKind) → ((d : ℕ) → 36524 < d → k d ≡ Closed) → (from to end : ℕ) → end ≡ min to 36525
@@ -155,14 +137,6 @@ session-ends k ends from to end e =
 -- nothing past the end of the calendar
 pub session-past : (k : ℕ → DayKind) → ((d : ℕ) → 36524 < d → k d ≡ Closed) → (from to : ℕ) → 36524 < from → firstSession k from to ≡ None
 session-past k ends from to h = ap firstOf (days-never isSession k from to (λ d l. past-last k ends isSession refl d (omega arith)))
-
--- a count that stops at the end of the calendar is no more than its days
-pub count-most : (from to end day count : ℕ) → end ≡ min to 36525 → (from ≤ end → day ≤ end) → count ≤ day - from → (end ≤ from → count ≡ 0) → count ≤ 36525
-count-most from to end day count e upto few none = by (end - from) refl
-  where
-    by : (n : ℕ) → end - from ≡ n → count ≤ 36525
-    by zero f = let z = none (omega arith) in omega arith
-    by (suc n) f = let u = upto (omega arith) in omega arith
 
 -- a day before the first session of the rest is none, if the first day is none
 cover : (k : ℕ → DayKind) (from to : ℕ) → isSession (k from) ≡ false → (r : Option ℕ) → First k (from + 1) to r → First k from to r
@@ -193,14 +167,14 @@ firsts k (suc n) from to e = by (isSession (k from)) refl (firsts k n (from + 1)
 pub is-first : (k : ℕ → DayKind) (from to : ℕ) (r : Option ℕ) → r ≡ firstSession k from to → First k from to r
 is-first k from to r e = rw e (firsts k (to - from) from to refl)
 
--- a month of the calendar expires on the first session of its days
-pub expiry-is : (k : ℕ → DayKind) (m first long : ℕ) (r : Option ℕ) → m ≤ 1199 → first ≡ firstDay m → long ≡ monthLength m
-  → r ≡ firstSession k first (first + long) → r ≡ firstSession k (firstDay m) (firstDay (m + 1))
-expiry-is k m first long r h e f is = let s = first-day-suc m in cc
-
-pub expiry-bound : (k : ℕ → DayKind) (m : ℕ) (r : Option ℕ) → m ≤ 1199 → First k (firstDay m) (firstDay (m + 1)) r → found r (λ d. d ≤ 36524)
-expiry-bound k m None h a = tt
-expiry-bound k m (Some s) h a = omega (arith, a .1, first-day-grows (m + 1) 1200 (omega arith), months-end)
-
-pub expiry-of : (k : ℕ → DayKind) (m : ℕ) (r : Option ℕ) → m ≤ 1199 → r ≡ firstSession k (firstDay m) (firstDay (m + 1)) → r ≡ expiryOf k m
-expiry-of k m r h e = rw (le-leb m 1199 h) e
+-- a session is a day of the calendar
+pub first-bound : (k : ℕ → DayKind) → ((d : ℕ) → 36524 < d → k d ≡ Closed) → (from to : ℕ) (r : Option ℕ) → First k from to r → found r (λ d. d ≤ 36524)
+first-bound k ends from to None a = tt
+first-bound k ends from to (Some s) a = by (s - 36524) refl
+  where
+    by : (n : ℕ) → s - 36524 ≡ n → s ≤ 36524
+    by zero e = omega arith
+    by (suc n) e = absurd (clash (sym (a .2) ∙ past-last k ends isSession refl s (omega arith)))
+      where
+        clash : true ≡ false → ⊥
+        clash q = let z : _≡_ {A = ℕ} 0 1 = cc in omega arith

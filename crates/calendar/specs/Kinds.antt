@@ -8,6 +8,18 @@ use Rattle.calendar.specs.declared.kind.DayKind.{DayKind}
 use Rattle.calendar.specs.declared.kind.DayKind.the-variants.{Closed, Reserve, Session}
 use Rattle.calendar.specs.declared.rule.Exception.{Exception}
 
+-- reserve days: a session is one too
+abbrev pub isReserve : DayKind → Bool
+isReserve Closed = false
+isReserve Reserve = true
+isReserve Session = true
+
+-- sessions
+abbrev pub isSession : DayKind → Bool
+isSession Closed = false
+isSession Reserve = false
+isSession Session = true
+
 -- a mark: 1 is a reserve day, 2 a session, any other closed
 abbrev pub ofMark : ℕ → DayKind
 ofMark n = cond (eqb n 1) Reserve (cond (eqb n 2) Session Closed)

@@ -7,12 +7,12 @@ use Rattle.std.specs.Of.Vec.{vec-items}
 use Rattle.calendar.specs.declared.kind.DayKind.{DayKind}
 use Rattle.calendar.specs.declared.kind.DayKind.the-variants.{Closed}
 use Rattle.calendar.specs.declared.rule.RuleCalendar.{RuleCalendar}
-use Rattle.calendar.specs.Kinds.{within, ofWeek}
+use Rattle.calendar.specs.Kinds.{within}
 
 -- the kind that it holds for the day
 abbrev pub ruleKinds : RuleCalendar → ℕ → DayKind
 ruleKinds c d = within d (getD (vec-items (c .days)) d Closed)
 
--- one kind for each day, as the week says
-abbrev pub Weeks : List DayKind → Type 0
-Weeks ks = (length ks ≡ 36525) × ((d : ℕ) → d < 36525 → getD ks d Closed ≡ ofWeek d)
+-- a list of kinds says of each day below n what a table says
+abbrev pub Tells : (ℕ → DayKind) → List DayKind → ℕ → Type 0
+Tells k ks n = (length ks ≡ n) × ((d : ℕ) → d < n → getD ks d Closed ≡ k d)

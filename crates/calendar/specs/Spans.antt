@@ -11,17 +11,7 @@ use Rattle.std.specs.declared.option.Option.{Option}
 use Rattle.std.specs.declared.option.Option.the-variants.{Some, None}
 use Rattle.dates.specs.Months.{firstDay}
 use Rattle.calendar.specs.declared.kind.DayKind.{DayKind}
-use Rattle.calendar.specs.declared.kind.DayKind.the-variants.{Closed, Reserve, Session}
-
-abbrev pub isReserve : DayKind → Bool
-isReserve Closed = false
-isReserve Reserve = true
-isReserve Session = true
-
-abbrev pub isSession : DayKind → Bool
-isSession Closed = false
-isSession Reserve = false
-isSession Session = true
+use Rattle.calendar.specs.Kinds.{isReserve, isSession}
 
 -- the days from `from`, included, to `to`, excluded, whose kind passes a test, in order
 unfoldable pub daysBy : (DayKind → Bool) → (ℕ → DayKind) → ℕ → ℕ → List ℕ

@@ -3,7 +3,7 @@ ghost use mathlib.Core.Path.{_≡_};
 ghost use Prim.Native.Nat.{ℕ, _<_};
 ghost use Rattle.calendar.specs.declared.kind.DayKind.{DayKind};
 ghost use Rattle.calendar.specs.declared.kind.DayKind.the-variants.{Closed};
-ghost use Rattle.calendar.specs.Kinds.{ofMark};
+ghost use Rattle.calendar.specs.Kinds.{ofMark, isReserve, isSession};
 
 // Closed; a reserve day (saque-reserva) without a session; a session, which is a reserve day too.
 #[derive(Clone, Copy, PartialEq, Eq, Debug)]
@@ -11,6 +11,26 @@ pub enum DayKind {
     Closed,
     Reserve,
     Session,
+}
+
+impl DayKind {
+    pub fn is_reserve(self) -> bool
+        ensures { λ r. ⌜ r ≡ isReserve self ⌝ }
+    {
+        match self {
+            DayKind::Closed => false,
+            DayKind::Reserve | DayKind::Session => true,
+        }
+    }
+
+    pub fn is_session(self) -> bool
+        ensures { λ r. ⌜ r ≡ isSession self ⌝ }
+    {
+        match self {
+            DayKind::Closed | DayKind::Reserve => false,
+            DayKind::Session => true,
+        }
+    }
 }
 
 // A calendar means one fixed table from days to kinds, closed past the last day. It gives the kind

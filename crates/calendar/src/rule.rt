@@ -1,12 +1,11 @@
 // The rule calendar: Monday to Friday are sessions but for a list of exceptions.
 ghost use mathlib.Core.Path.{_≡_};
-ghost use Prim.Native.Nat.{ℕ, _<_};
-ghost use lib.ListN.{length, getD, set};
-ghost use Rattle.std.specs.Of.Vec.{vec-items, vec-len};
+ghost use Prim.Native.Nat.{ℕ, _+_, _<_};
+ghost use lib.ListN.{length, drop};
+ghost use Rattle.std.specs.Of.Vec.{vec-items};
 ghost use Rattle.std.specs.Vec.{made};
-ghost use Rattle.calendar.specs.declared.kind.DayKind.the-variants.{Closed};
-ghost use Rattle.calendar.specs.Kinds.{ofMark, ofWeek, ruled};
-ghost use Rattle.calendar.specs.Ruled.{ruleKinds, Weeks};
+ghost use Rattle.calendar.specs.Kinds.{ofWeek, excepted, ruled};
+ghost use Rattle.calendar.specs.Ruled.{ruleKinds, Tells};
 use crate::kind::Calendar;
 use crate::kind::DayKind;
 use crate::kind::kind_of_mark;
@@ -36,13 +35,25 @@ fn kind_of_week(day: u32) -> DayKind
 
 // The days without an exception.
 fn weeks(heap: Global) -> Result<Vec<DayKind>, AllocError>
-    ensures { λ r. ⌜ made r (λ v. Weeks (vec-items v)) ⌝ }
+    ensures { λ r. ⌜ made r (λ v. Tells ofWeek (vec-items v) 36525) ⌝ }
 {
     let mut days = Vec::with_capacity(heap, LAST_DAY as usize + 1)?;
     for day in 0..LAST_DAY + 1 {
         days.push(kind_of_week(day))?;
     }
     Ok(days)
+}
+
+// Puts in the entry before those that are in already.
+fn enter(days: &mut Vec<DayKind>, exceptions: &[Exception], at: usize)
+    requires within { ⌜ at < length (now exceptions) ⌝ }
+    requires told { ⌜ Tells (excepted (drop (at + 1) (now exceptions))) (vec-items (now days)) 36525 ⌝ }
+    ensures { λ _. ⌜ Tells (excepted (drop at (now (exceptions .entry)))) (vec-items (now (days .exit))) 36525 ⌝ }
+{
+    let exception = exceptions[at];
+    if exception.day <= LAST_DAY {
+        days[exception.day as usize] = kind_of_mark(exception.kind);
+    }
 }
 
 impl RuleCalendar {
@@ -54,10 +65,7 @@ impl RuleCalendar {
         let mut left = exceptions.len();
         while left > 0 {
             left -= 1;
-            let exception = exceptions[left];
-            if exception.day <= LAST_DAY {
-                days[exception.day as usize] = kind_of_mark(exception.kind);
-            }
+            enter(&mut days, exceptions, left);
         }
         Ok(RuleCalendar { days })
     }

@@ -2,7 +2,7 @@ use Prim.Native.Nat.{_≤_}
 use lib.ListN.{length, drop}
 use Rattle.std.specs.Of.Vec.{vec-items}
 use Rattle.calendar.specs.Kinds.{excepted}
-use Rattle.calendar.proofs.Rules.{Tells}
+use Rattle.calendar.specs.Ruled.{Tells}
 use Rattle.calendar.proofs.rule.RuleCalendar.new.Given as given
 
 abbrev pub Inv-loop-left : given.InvT-loop-left

@@ -1,0 +1,3 @@
+pub mod MonthLaws
+pub mod DateLaws
+pub mod TextLaws

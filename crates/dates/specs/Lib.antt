@@ -1,0 +1,4 @@
+pub mod Months
+pub mod Dates
+pub mod Named
+pub mod Week

@@ -1,0 +1,8 @@
+-- The marked figures, computed.
+use Rattle.interest.specs.Power.{powerOf, climb, rootOf}
+use Rattle.interest.specs.Price.{dayFactor, afterYears, afterDays, tradePrice}
+use Rattle.interest.specs.Figures.{Figures-hold}
+
+pub figures : Figures-hold
+unfolding powerOf climb rootOf dayFactor afterYears afterDays tradePrice
+figures = tt
