@@ -26,7 +26,7 @@ days-none t k from to h =
 
 -- the first day of a range, and the rest
 pub days-head : (t : DayKind → Bool) (k : ℕ → DayKind) (from to : ℕ) → from < to
-  → daysBy t k from to ≡ cond (t (k from)) (from ∷ daysBy t k (from + 1) to) (daysBy t k (from + 1) to)
+    → daysBy t k from to ≡ cond (t (k from)) (from ∷ daysBy t k (from + 1) to) (daysBy t k (from + 1) to)
 unfolding daysBy
 days-head t k from to h =
     let e : to - from ≡ suc (to - (from + 1)) = omega arith in ap (λ n. kept-by (λ d. t (k d)) (counting from n)) e
@@ -36,7 +36,7 @@ join true d xs ys = refl
 join false d xs ys = refl
 
 split : (t : DayKind → Bool) (k : ℕ → DayKind) (n from to : ℕ) → from + n ≤ to
-  → daysBy t k from to ≡ daysBy t k from (from + n) ++ daysBy t k (from + n) to
+    → daysBy t k from to ≡ daysBy t k from (from + n) ++ daysBy t k (from + n) to
 split t k zero from to h =
     let e : daysBy t k from (from + 0) ≡ [] = days-none t k from (from + 0) (omega arith) in
     rw e (rw add-zero refl)
@@ -45,7 +45,7 @@ split t k (suc n) from to h =
     let m : from < from + suc n = omega arith in
     let a : (from + 1) + n ≡ from + suc n = omega arith in
     let s : daysBy t k (from + 1) to ≡ daysBy t k (from + 1) (from + suc n) ++ daysBy t k (from + suc n) to =
-        rw a at (split t k n (from + 1) to (omega arith)) in
+    rw a at (split t k n (from + 1) to (omega arith)) in
     days-head t k from to l
     ∙ ap (λ xs. cond (t (k from)) (from ∷ xs) xs) s
     ∙ join (t (k from)) from (daysBy t k (from + 1) (from + suc n)) (daysBy t k (from + suc n) to)
@@ -53,18 +53,18 @@ split t k (suc n) from to h =
 
 -- a range is its first part and the rest
 pub days-split : (t : DayKind → Bool) (k : ℕ → DayKind) (from mid to : ℕ) → from ≤ mid → mid ≤ to
-  → daysBy t k from to ≡ daysBy t k from mid ++ daysBy t k mid to
+    → daysBy t k from to ≡ daysBy t k from mid ++ daysBy t k mid to
 days-split t k from mid to h l =
     let e : from + (mid - from) ≡ mid = omega arith in rw e at (split t k (mid - from) from to (omega arith))
 
 -- one day more at the end
 pub days-more : (t : DayKind → Bool) (k : ℕ → DayKind) (from day : ℕ) → from ≤ day
-  → daysBy t k from (day + 1) ≡ daysBy t k from day ++ cond (t (k day)) (day ∷ []) []
+    → daysBy t k from (day + 1) ≡ daysBy t k from day ++ cond (t (k day)) (day ∷ []) []
 days-more t k from day h =
     let e : daysBy t k (day + 1) (day + 1) ≡ [] = days-none t k (day + 1) (day + 1) (omega arith) in
     days-split t k from day (day + 1) h (omega arith)
     ∙ ap (λ xs. daysBy t k from day ++ xs)
-      (days-head t k day (day + 1) (omega arith) ∙ ap (λ xs. cond (t (k day)) (day ∷ xs) xs) e)
+    (days-head t k day (day + 1) (omega arith) ∙ ap (λ xs. cond (t (k day)) (day ∷ xs) xs) e)
 
 no-days : (t : DayKind → Bool) (k : ℕ → DayKind) (n from : ℕ) → ((d : ℕ) → from ≤ d → t (k d) ≡ false) → daysBy t k from (from + n) ≡ []
 no-days t k zero from h = days-none t k from (from + 0) (omega arith)
@@ -83,7 +83,7 @@ days-never t k from to h = by (to - from) refl
 
 -- what a range has past a day from which on none passes is nothing
 pub days-end : (t : DayKind → Bool) (k : ℕ → DayKind) (end from to : ℕ) → ((d : ℕ) → end ≤ d → t (k d) ≡ false)
-  → daysBy t k from to ≡ daysBy t k from (min to end)
+    → daysBy t k from to ≡ daysBy t k from (min to end)
 days-end t k end from to h = by (to - end) (end - from) refl refl
   where
     by : (m n : ℕ) → to - end ≡ m → end - from ≡ n → daysBy t k from to ≡ daysBy t k from (min to end)
@@ -99,7 +99,7 @@ days-end t k end from to h = by (to - end) (end - from) refl refl
 
 -- the number of days with one day more
 pub count-more : (t : DayKind → Bool) (k : ℕ → DayKind) (from day : ℕ) → from ≤ day
-  → length (daysBy t k from (day + 1)) ≡ length (daysBy t k from day) + cond (t (k day)) 1 0
+    → length (daysBy t k from (day + 1)) ≡ length (daysBy t k from day) + cond (t (k day)) 1 0
 count-more t k from day h =
     ap length (days-more t k from day h) ∙ length-append (daysBy t k from day) _ ∙ ap (λ n. length (daysBy t k from day) + n) (one (t (k day)))
   where
@@ -124,13 +124,13 @@ past-last k ends t e d h = ap t (ends d (omega arith)) ∙ e
 
 -- a count that stops at the end of the calendar
 pub count-ends : (k : ℕ → DayKind) → ((d : ℕ) → 36524 < d → k d ≡ Closed) → (from end to count : ℕ) → count ≡ length (reserveDays k from end)
-  → end ≡ min to 36525 → count ≡ length (reserveDays k from to)
+    → end ≡ min to 36525 → count ≡ length (reserveDays k from to)
 count-ends k ends from end to count is e =
     is ∙ sym (ap length (days-end isReserve k 36525 from to (past-last k ends isReserve refl) ∙ ap (daysBy isReserve k from) (sym e)))
 
 -- a search that stops at the end of the calendar
 pub session-ends : (k : ℕ → DayKind) → ((d : ℕ) → 36524 < d → k d ≡ Closed) → (from to end : ℕ) → end ≡ min to 36525
-  → firstSession k from to ≡ firstSession k from end
+    → firstSession k from to ≡ firstSession k from end
 session-ends k ends from to end e =
     ap firstOf (days-end isSession k 36525 from to (past-last k ends isSession refl) ∙ ap (daysBy isSession k from) (sym e))
 
@@ -158,8 +158,10 @@ firsts k (suc n) from to e = by (isSession (k from)) refl (firsts k n (from + 1)
   where
     lt : from < to
     lt = omega arith
+
     step : (b : Bool) → isSession (k from) ≡ b → firstSession k from to ≡ firstOf (cond b (from ∷ daysBy isSession k (from + 1) to) (daysBy isSession k (from + 1) to))
     step b f = ap firstOf (days-head isSession k from to lt ∙ ap (λ b. cond b (from ∷ daysBy isSession k (from + 1) to) (daysBy isSession k (from + 1) to)) f)
+
     by : (b : Bool) → isSession (k from) ≡ b → First k (from + 1) to (firstSession k (from + 1) to) → First k from to (firstSession k from to)
     by true f later = rw (step true f) ((omega arith, lt, f, λ d l m. absurd (omega arith)))
     by false f later = rw (step false f) (cover k from to f (firstSession k (from + 1) to) later)

@@ -4,3 +4,5 @@ pub mod kind;
 pub mod marked;
 pub mod rule;
 pub mod span;
+#[cfg(test)]
+mod tests;

@@ -30,7 +30,11 @@ pub struct RuleCalendar {
 fn kind_of_week(day: u32) -> DayKind
     ensures { λ r. ⌜ r ≡ ofWeek day ⌝ }
 {
-    if day % 7 < 2 { DayKind::Closed } else { DayKind::Session }
+    if day % 7 < 2 {
+        DayKind::Closed
+    } else {
+        DayKind::Session
+    }
 }
 
 // The days without an exception.

@@ -63,12 +63,12 @@ isPriced kinds session trade = not (isSome (unpriced kinds session trade))
 -- a trade in price: the buyer in rate sells, the seller in rate buys
 abbrev pub inPrice : (ℕ → DayKind) → ℕ → Trade → PricedTrade
 inPrice kinds session trade = record {
-    buyer = trade .seller;
-    seller = trade .buyer;
-    expiry = expiryDay kinds (trade .month);
-    days = daysTo kinds session (trade .month);
-    price = tradePrice (trade .rate) (daysTo kinds session (trade .month))
-  }
+  buyer = trade .seller;
+  seller = trade .buyer;
+  expiry = expiryDay kinds (trade .month);
+  days = daysTo kinds session (trade .month);
+  price = tradePrice (trade .rate) (daysTo kinds session (trade .month));
+}
 
 -- the answer: the trade in price where no cause holds, else the first cause
 abbrev pub Answer : (ℕ → DayKind) → ℕ → Trade → Result PricedTrade Cause → Type 0

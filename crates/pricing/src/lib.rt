@@ -23,3 +23,6 @@ pub use trades::PricedTradeDebug;
 pub use trades::PricedTradeEq;
 pub use trades::PricedTradePartialEq;
 pub use trades::price_trade;
+
+#[cfg(test)]
+mod tests;

@@ -8,8 +8,8 @@ ghost use Rattle.sheet.specs.declared.trade.Trade.{Trade};
 ghost use Rattle.sheet.specs.Views.{viewTrades, Sound};
 ghost use Rattle.pricing.specs.Pricing.{isPriced};
 ghost use Rattle.pricing.specs.Tallies.{Tallied};
-use calendar::kind::Calendar;
 use crate::trades::price_trade;
+use calendar::kind::Calendar;
 use sheet::SheetView;
 use sheet::Trade;
 

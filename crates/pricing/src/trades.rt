@@ -48,7 +48,11 @@ impl Cause {
 }
 
 // Prices a trade of a session. A buyer in rate is a seller in price.
-pub fn price_trade<C: Calendar>(calendar: &C, session: u32, trade: Trade) -> Result<PricedTrade, Cause>
+pub fn price_trade<C: Calendar>(
+    calendar: &C,
+    session: u32,
+    trade: Trade,
+) -> Result<PricedTrade, Cause>
     ensures { λ r. ⌜ Answer (kinds (now (calendar .entry))) session trade r ⌝ }
 {
     let Some(expiry) = expiry(calendar, trade.month) else {

@@ -10,9 +10,16 @@ pub enum Failure {
     // in these words
     Said(String),
     // at a line of a text file
-    AtLine { file: String, line: usize, words: String },
+    AtLine {
+        file: String,
+        line: usize,
+        words: String,
+    },
     // about a file
-    About { file: String, words: String },
+    About {
+        file: String,
+        words: String,
+    },
     Memory,
     Output,
 }

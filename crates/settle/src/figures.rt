@@ -9,10 +9,22 @@ use std::fmt;
 
 // Decimals after the point of a dealt rate, a DI rate and a day factor.
 pub(crate) const RATE_PLACES: usize = 3;
+
 const DI_PLACES: usize = 6;
+
 const FACTOR_PLACES: usize = 8;
 
-const TENS: [u32; 9] = [1, 10, 100, 1_000, 10_000, 100_000, 1_000_000, 10_000_000, 100_000_000];
+const TENS: [u32; 9] = [
+    1,
+    10,
+    100,
+    1_000,
+    10_000,
+    100_000,
+    1_000_000,
+    10_000_000,
+    100_000_000,
+];
 
 // A number with so many decimals after the point.
 #[derive(Clone, Copy)]
@@ -66,7 +78,9 @@ pub(crate) fn parse_fixed(text: &str, places: usize) -> Option<u32> {
     };
     let missing = places.checked_sub(decimals.len())?;
     let fraction = number(decimals)?.checked_mul(unit(missing)?)?;
-    number(whole)?.checked_mul(unit(places)?)?.checked_add(fraction)
+    number(whole)?
+        .checked_mul(unit(places)?)?
+        .checked_add(fraction)
 }
 
 fn unit(places: usize) -> Option<u32> {
@@ -96,7 +110,10 @@ pub(crate) fn factor(heap: Global, rate: &str) -> Result<String, Failure> {
     };
     match day_factor(di) {
         Some(value) => {
-            let factor = Fixed { value, places: FACTOR_PLACES };
+            let factor = Fixed {
+                value,
+                places: FACTOR_PLACES,
+            };
             Ok(format!(heap, "{factor}\n")?)
         }
         None => Err(Failure::said(heap, "rate over 99.999999 %")?),

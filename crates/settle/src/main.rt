@@ -17,7 +17,8 @@ use std::alloc::Global;
 use std::env;
 use std::error::AnyError;
 
-const HELP: &str = "settle prices OFFICE SHEET       prices every line of a sheet on the office's calendar
+const HELP: &str =
+    "settle prices OFFICE SHEET       prices every line of a sheet on the office's calendar
 settle sheet show FILE           prints a sheet as text
 settle sheet make TEXTFILE FILE  writes the sheet that a text describes
 settle price RATE DAYS           the price of a dealt rate over a number of reserve days

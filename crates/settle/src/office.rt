@@ -34,7 +34,12 @@ fn kind_number(word: &str) -> Option<u8> {
 // An exception line.
 fn exception(heap: Global, file: &str, line: &Line) -> Result<Exception, Failure> {
     let ["exception", date, kind] = line.words.as_slice() else {
-        return Err(bad_line(heap, file, line.number, "expected: exception DATE closed, reserve or session"));
+        return Err(bad_line(
+            heap,
+            file,
+            line.number,
+            "expected: exception DATE closed, reserve or session",
+        ));
     };
     let Ok(day) = Date::parse(date) else {
         return Err(no_such(heap, file, line.number, "no date", date));
@@ -42,7 +47,10 @@ fn exception(heap: Global, file: &str, line: &Line) -> Result<Exception, Failure
     let Some(kind) = kind_number(kind) else {
         return Err(no_such(heap, file, line.number, "no kind of day", kind));
     };
-    Ok(Exception { day: day.day_number(), kind })
+    Ok(Exception {
+        day: day.day_number(),
+        kind,
+    })
 }
 
 // A line after the calendar line of a rule calendar.
@@ -69,7 +77,12 @@ fn nothing_more(heap: Global, file: &str, lines: &[Line]) -> Result<(), Failure>
         return Ok(());
     };
     match line.words.as_slice() {
-        ["exception", ..] => Err(bad_line(heap, file, line.number, "a marked calendar takes no exception")),
+        ["exception", ..] => Err(bad_line(
+            heap,
+            file,
+            line.number,
+            "a marked calendar takes no exception",
+        )),
         ["calendar", ..] => Err(bad_line(heap, file, line.number, "a second calendar")),
         [word, ..] => Err(no_such(heap, file, line.number, "unknown word", word)),
         [] => Ok(()),
@@ -104,7 +117,12 @@ pub(crate) fn read_office(rt: &LibcRuntime, file: &str) -> Result<OfficeCalendar
             nothing_more(heap, file, rest)?;
             Ok(OfficeCalendar::Marked(MarkedCalendar::new(bytes)))
         }
-        ["calendar", ..] => Err(bad_line(heap, file, first.number, "expected: calendar rule, or calendar marked FILE")),
+        ["calendar", ..] => Err(bad_line(
+            heap,
+            file,
+            first.number,
+            "expected: calendar rule, or calendar marked FILE",
+        )),
         _ => Err(bad_line(heap, file, first.number, "no calendar line")),
     }
 }

@@ -32,7 +32,8 @@ use sheet::SheetView;
 use sheet::Trade;
 use std::alloc::Global;
 
-const HEADING: &str = "line  rate buyer  rate seller  PU buyer  PU seller  code    expiry      days    rate %  contracts          PU\n";
+const HEADING: &str =
+    "line  rate buyer  rate seller  PU buyer  PU seller  code    expiry      days    rate %  contracts          PU\n";
 
 // Why a line is not priced, in words.
 fn cause_words(cause: Cause) -> &'static str {
@@ -46,21 +47,39 @@ fn cause_words(cause: Cause) -> &'static str {
 }
 
 // The last column: the price, or why there is none.
-fn price_words<C: Calendar>(heap: Global, calendar: &C, session: u32, trade: Trade) -> Result<String, Failure> {
-    Ok(match price_trade(calendar, session, trade) {
-        Ok(priced) => {
-            let price = format!(heap, "{}", Points { hundredths: priced.price })?;
-            format!(heap, "{price:>10}")?
-        }
-        Err(cause) => {
-            let words = cause_words(cause);
-            format!(heap, "not priced: {words}")?
-        }
-    })
+fn price_words<C: Calendar>(
+    heap: Global,
+    calendar: &C,
+    session: u32,
+    trade: Trade,
+) -> Result<String, Failure> {
+    Ok(
+        match price_trade(calendar, session, trade) {
+            Ok(priced) => {
+                let price = format!(
+                    heap,
+                    "{}",
+                    Points {
+                        hundredths: priced.price
+                    }
+                )?;
+                format!(heap, "{price:>10}")?
+            }
+            Err(cause) => {
+                let words = cause_words(cause);
+                format!(heap, "not priced: {words}")?
+            }
+        },
+    )
 }
 
 // The expiry and the reserve days to it, where there are any.
-fn term_words<C: Calendar>(heap: Global, calendar: &C, session: u32, month: u32) -> Result<(String, String), Failure> {
+fn term_words<C: Calendar>(
+    heap: Global,
+    calendar: &C,
+    session: u32,
+    month: u32,
+) -> Result<(String, String), Failure> {
     let none = String::from_str(heap, "-")?;
     let Some(day) = expiry(calendar, month) else {
         return Ok((none, String::from_str(heap, "-")?));
@@ -74,15 +93,34 @@ fn term_words<C: Calendar>(heap: Global, calendar: &C, session: u32, month: u32)
 }
 
 // A line of the sheet.
-fn row<C: Calendar>(heap: Global, calendar: &C, session: u32, line: usize, trade: Trade) -> Result<String, Failure> {
+fn row<C: Calendar>(
+    heap: Global,
+    calendar: &C,
+    session: u32,
+    line: usize,
+    trade: Trade,
+) -> Result<String, Failure> {
     let buyer = trade.buyer;
     let seller = trade.seller;
-    let sides = format!(heap, "{line:>4}  {buyer:>10}  {seller:>11}  {seller:>8}  {buyer:>9}")?;
+    let sides = format!(
+        heap,
+        "{line:>4}  {buyer:>10}  {seller:>11}  {seller:>8}  {buyer:>9}"
+    )?;
     let code = code_words(heap, trade.month)?;
     let (date, days) = term_words(heap, calendar, session, trade.month)?;
-    let rate = format!(heap, "{}", Fixed { value: trade.rate, places: RATE_PLACES })?;
+    let rate = format!(
+        heap,
+        "{}",
+        Fixed {
+            value: trade.rate,
+            places: RATE_PLACES
+        }
+    )?;
     let quantity = trade.quantity;
-    let terms = format!(heap, "{code:<6}  {date:<10}  {days:>4}  {rate:>8}  {quantity:>9}")?;
+    let terms = format!(
+        heap,
+        "{code:<6}  {date:<10}  {days:>4}  {rate:>8}  {quantity:>9}"
+    )?;
     let price = price_words(heap, calendar, session, trade)?;
     Ok(format!(heap, "{sides}  {terms}  {price}\n")?)
 }
@@ -105,8 +143,16 @@ fn totals(heap: Global, all: Tally, priced: Tally) -> Result<String, Failure> {
     let contracts_word = contracts_word(contracts);
     let contracts_priced = priced.contracts;
     let contracts_left = contracts.saturating_sub(contracts_priced);
-    let first = format!(heap, "total: {lines} {lines_word}, {lines_priced} priced, {lines_left} not priced\n")?;
-    Ok(format!(heap, "{first}total: {contracts} {contracts_word}, {contracts_priced} priced, {contracts_left} not priced\n")?)
+    let first = format!(
+        heap,
+        "total: {lines} {lines_word}, {lines_priced} priced, {lines_left} not priced\n"
+    )?;
+    Ok(
+        format!(
+            heap,
+            "{first}total: {contracts} {contracts_word}, {contracts_priced} priced, {contracts_left} not priced\n"
+        )?,
+    )
 }
 
 // The months that a sheet names, in order, each once.
@@ -130,11 +176,21 @@ fn month_line(heap: Global, view: &SheetView, month: u32) -> Result<String, Fail
     let lines_word = plural(lines);
     let contracts = tally.contracts;
     let contracts_word = contracts_word(contracts);
-    Ok(format!(heap, "{code}: {lines} {lines_word}, {contracts} {contracts_word}\n")?)
+    Ok(
+        format!(
+            heap,
+            "{code}: {lines} {lines_word}, {contracts} {contracts_word}\n"
+        )?,
+    )
 }
 
 // The whole print of a sheet on a calendar.
-fn priced<C: Calendar>(heap: Global, calendar: &C, file: &str, view: &SheetView) -> Result<String, Failure> {
+fn priced<C: Calendar>(
+    heap: Global,
+    calendar: &C,
+    file: &str,
+    view: &SheetView,
+) -> Result<String, Failure> {
     let session = view.day();
     let day = day_words(heap, session)?;
     if !calendar.kind(session).is_session() {

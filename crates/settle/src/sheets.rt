@@ -6,8 +6,8 @@ use crate::failure::FailureFromRefused;
 use crate::figures::Fixed;
 use crate::figures::FixedDisplay;
 use crate::figures::RATE_PLACES;
-use crate::figures::parse_fixed;
 use crate::figures::number;
+use crate::figures::parse_fixed;
 use crate::texts::Line;
 use crate::texts::bad_line;
 use crate::texts::lines_of;
@@ -44,20 +44,32 @@ fn fault_words(heap: Global, bytes: &[u8], fault: SheetFault) -> Result<String, 
     let length = bytes.len();
     let count = count_said(bytes);
     let line = fault.line();
-    Ok(match fault {
-        SheetFault::Length if length < 4 => format!(heap, "line {line}: length {length}, under 4")?,
-        SheetFault::Length => {
-            let asked = 4 + 16 * count;
-            format!(heap, "line {line}: length {length}, and the count asks for {asked}")?
-        }
-        SheetFault::Count => format!(heap, "line {line}: count {count}, over 256")?,
-        SheetFault::Day => format!(heap, "line {line}: another day")?,
-        SheetFault::Code(_) => format!(heap, "line {line}: no contract code")?,
-    })
+    Ok(
+        match fault {
+            SheetFault::Length if length < 4 => format!(
+                heap,
+                "line {line}: length {length}, under 4"
+            )?,
+            SheetFault::Length => {
+                let asked = 4 + 16 * count;
+                format!(
+                    heap,
+                    "line {line}: length {length}, and the count asks for {asked}"
+                )?
+            }
+            SheetFault::Count => format!(heap, "line {line}: count {count}, over 256")?,
+            SheetFault::Day => format!(heap, "line {line}: another day")?,
+            SheetFault::Code(_) => format!(heap, "line {line}: no contract code")?,
+        },
+    )
 }
 
 // A view of the bytes of a sheet file.
-pub(crate) fn view<'a>(heap: Global, file: &str, bytes: &'a [u8]) -> Result<SheetView<'a>, Failure> {
+pub(crate) fn view<'a>(
+    heap: Global,
+    file: &str,
+    bytes: &'a [u8],
+) -> Result<SheetView<'a>, Failure> {
     match read(bytes) {
         Ok(view) => Ok(view),
         Err(fault) => Err(Failure::About {
@@ -69,23 +81,30 @@ pub(crate) fn view<'a>(heap: Global, file: &str, bytes: &'a [u8]) -> Result<Shee
 
 // A session day, as a date where it has one.
 pub(crate) fn day_words(heap: Global, day: u32) -> Result<String, Failure> {
-    Ok(match Date::of_day(day) {
-        Some(date) => format!(heap, "{date}")?,
-        None => format!(heap, "day {day}")?,
-    })
+    Ok(
+        match Date::of_day(day) {
+            Some(date) => format!(heap, "{date}")?,
+            None => format!(heap, "day {day}")?,
+        },
+    )
 }
 
 // The code of a month, or nothing where it has none.
 pub(crate) fn code_words(heap: Global, month: u32) -> Result<String, Failure> {
-    Ok(match ContractCode::new(month) {
-        Some(code) => format!(heap, "{code}")?,
-        None => String::new(heap),
-    })
+    Ok(
+        match ContractCode::new(month) {
+            Some(code) => format!(heap, "{code}")?,
+            None => String::new(heap),
+        },
+    )
 }
 
 fn trade_words(heap: Global, trade: Trade) -> Result<String, Failure> {
     let code = code_words(heap, trade.month)?;
-    let rate = Fixed { value: trade.rate, places: RATE_PLACES };
+    let rate = Fixed {
+        value: trade.rate,
+        places: RATE_PLACES,
+    };
     let buyer = trade.buyer;
     let seller = trade.seller;
     let quantity = trade.quantity;
@@ -135,7 +154,12 @@ fn account(heap: Global, file: &str, line: usize, word: &str) -> Result<u8, Fail
 // A trade line.
 fn trade(heap: Global, file: &str, line: &Line) -> Result<Trade, Failure> {
     let ["trade", buyer, seller, code, rate, quantity] = line.words.as_slice() else {
-        return Err(bad_line(heap, file, line.number, "expected: trade BUYER SELLER CODE RATE QUANTITY"));
+        return Err(bad_line(
+            heap,
+            file,
+            line.number,
+            "expected: trade BUYER SELLER CODE RATE QUANTITY",
+        ));
     };
     let buyer = account(heap, file, line.number, buyer)?;
     let seller = account(heap, file, line.number, seller)?;
@@ -148,7 +172,13 @@ fn trade(heap: Global, file: &str, line: &Line) -> Result<Trade, Failure> {
     let Some(contracts) = number(quantity) else {
         return Err(no_such(heap, file, line.number, "no quantity", quantity));
     };
-    Ok(Trade { buyer, seller, month: contract.month(), rate: dealt, quantity: contracts })
+    Ok(Trade {
+        buyer,
+        seller,
+        month: contract.month(),
+        rate: dealt,
+        quantity: contracts,
+    })
 }
 
 // A line after the session line.

@@ -9,7 +9,7 @@ pub returns-then-from-end : need.returns-then-from-end
 returns-then-from-end g c =
     record {
       value =
-        count-ends _ (g .C·Calendar·met .ends (c .args .calendar .now)) _ _ _ _
-        (sym (ap length (days-none isReserve _ _ _ (c .if-from-end .taken)))) (c .min-end .ensures);
-      most = omega arith
+          count-ends _ (g .C·Calendar·met .ends (c .args .calendar .now)) _ _ _ _
+          (sym (ap length (days-none isReserve _ _ _ (c .if-from-end .taken)))) (c .min-end .ensures);
+      most = omega arith;
     }

@@ -12,8 +12,8 @@ returns-then-is-session g c =
     let ends = g .C·Calendar·met .ends (c .args .calendar .now) in
     let day = c .loop-day .day in
     let e : Some day ≡ firstSession k (c .args .from) (c .args .to) =
-        sym (session-ends k ends _ _ _ (c .min-end .ensures) ∙ c .loop-day .inv
-          ∙ session-here k _ _ (c .loop-day-test .taken) (ap isSession (sym (c .kind .ensures)) ∙ sym (c .if-is-session .ensures tt))) in
+    sym (session-ends k ends _ _ _ (c .min-end .ensures) ∙ c .loop-day .inv
+    ∙ session-here k _ _ (c .loop-day-test .taken) (ap isSession (sym (c .kind .ensures)) ∙ sym (c .if-is-session .ensures tt))) in
     let f = is-first k (c .args .from) (c .args .to) (Some day) e in
     record { value = e; first = f; bound = first-bound k ends (c .args .from) (c .args .to) (Some day) f }
 
@@ -25,6 +25,6 @@ returns g c =
     let k = g .C·Calendar .kinds (c .args .calendar .now) in
     let ends = g .C·Calendar·met .ends (c .args .calendar .now) in
     let e : None ≡ firstSession k (c .args .from) (c .args .to) =
-        sym (session-ends k ends _ _ _ (c .min-end .ensures) ∙ c .loop-day .inv ∙ session-none k _ _ (c .loop-day-test .left)) in
+    sym (session-ends k ends _ _ _ (c .min-end .ensures) ∙ c .loop-day .inv ∙ session-none k _ _ (c .loop-day-test .left)) in
     let f = is-first k (c .args .from) (c .args .to) None e in
     record { value = e; first = f; bound = tt }

@@ -10,21 +10,28 @@ pub loop-line-again : need.loop-line-again
 loop-line-again g c =
     let n = length-lines (viewCount (c .args .view .now)) (viewBytes (c .args .view .now)) in
     elim (c .match-trade .came) [
-      in-Some·then-picks w ↦
-        rw (w .lines-is, w .contracts-is)
-        ((omega arith, omega arith,
-          λ sound.
-            part-more _ _ _ (w .in-Some .trade) _ _ (omega arith) (sym (w .in-Some .ensures tt .value sound)) (sym (w .if-picks .ensures tt))
-            (c .loop-line .inv .2 sound)))
+      | in-Some·then-picks w ↦
+          rw (w .lines-is, w .contracts-is)
+          ((
+            omega arith,
+            omega arith,
+            λ sound.
+                part-more _ _ _ (w .in-Some .trade) _ _ (omega arith) (sym (w .in-Some .ensures tt .value sound)) (sym (w .if-picks .ensures tt))
+                (c .loop-line .inv .2 sound),
+          ))
       | in-Some·else-picks w ↦
-        rw (w .lines-is, w .contracts-is)
-        ((omega arith, omega arith,
-          λ sound.
-            part-same _ _ _ (w .in-Some .trade) _ _ (omega arith) (sym (w .in-Some .ensures tt .value sound)) (sym (w .if-picks .ensures tt))
-            (c .loop-line .inv .2 sound)))
+          rw (w .lines-is, w .contracts-is)
+          ((
+            omega arith,
+            omega arith,
+            λ sound.
+                part-same _ _ _ (w .in-Some .trade) _ _ (omega arith) (sym (w .in-Some .ensures tt .value sound)) (sym (w .if-picks .ensures tt))
+                (c .loop-line .inv .2 sound),
+          ))
       | in-rest w ↦
-        rw (w .lines-is, w .contracts-is)
-        ((omega arith, omega arith, λ sound. absurd (never-none (viewTrades (c .args .view .now)) (c .loop-line .line) (omega arith) (w .in-rest .ensures tt .value sound)))) ]
+          rw (w .lines-is, w .contracts-is)
+          ((omega arith, omega arith, λ sound. absurd (never-none (viewTrades (c .args .view .now)) (c .loop-line .line) (omega arith) (w .in-rest .ensures tt .value sound))))
+    ]
 
 pub returns : need.returns
 returns g c sound =
