@@ -1,8 +1,7 @@
 #!/bin/bash
 # Runs every case on the program at $1 and prints, for each, the command, the
 # status, standard output and standard error. Two programs' prints are compared
-# with diff. The cases of the part "readings" are those on which the documents
-# leave a choice.
+# with diff.
 
 program=$(realpath "$1") || exit 2
 here=$(cd "$(dirname "$0")" && pwd)
@@ -80,7 +79,7 @@ priced() { # text file, office file
 # so many bytes of one value: 100 '\2'
 repeat() { head -c "$1" /dev/zero | tr '\0' "$2"; }
 
-cp "$here/example/office.txt" "$here/example/sheet.txt" .
+cp "$here/../crates/settle/data/office.txt" "$here/../crates/settle/data/sheet.txt" . || exit 2
 cp office.txt example-office.txt
 printf 'calendar rule\n' >rule.txt
 "$program" sheet make sheet.txt sheet.bin >/dev/null 2>&1
@@ -90,7 +89,7 @@ part 'the main example'
 whole sheet.txt example-office.txt
 bytes first.bin
 
-part 'the print of the document'
+part 'the print of PROGRAM.md'
 printf 'session 2026-12-30\ntrade 0 1 DI1F27 10.000 10\ntrade 2 3 DI1Z26 10.000 5\n' >two.txt
 whole two.txt example-office.txt
 bytes first.bin
@@ -141,7 +140,7 @@ run sheet make sheet.txt no-folder/made.bin
 run sheet make sheet.txt a-folder
 
 # ------------------------------------------------------------------
-part 'price: the figures of the document'
+part 'price: the figures of RULES.md'
 run price 10 252
 run price 10 504
 run price 0 2520
@@ -193,7 +192,7 @@ run price 10 ten
 run price ten ten
 run price 10 '١'
 
-part 'factor: the figures of the document'
+part 'factor: the figures of RULES.md'
 run factor 0
 run factor 10
 run factor 21
@@ -470,7 +469,7 @@ for seed in 1 2 3 4; do
 done
 
 # ------------------------------------------------------------------
-part 'readings'
+part 'forms at the edges'
 echo 'the words of the help'
 run help
 echo 'one line, one contract'

@@ -1,10 +1,10 @@
 -- Each date has one day number, and each day number one date. Assumes nothing.
-use mathlib.Core.Path.{_≡_, refl, sym, ap, subst, _∙_}
+use mathlib.Core.Path.{_≡_, sym, ap, _∙_}
 use Prim.Native.Nat.{ℕ, _+_, _-_, _*_, _/_, _%_, _≤_, _<_}
 use native.Mathlib.Omega.{arith}
 use Rattle.dates.specs.Months.{monthLength, firstDay, monthOf, Holds}
 use Rattle.dates.specs.Dates.{monthNumber, Real, dayOf}
-use Rattle.dates.proofs.MonthLaws.{first-day-suc, first-day-grows, length-bound, first-day-bound, days-end, month-is}
+use Rattle.dates.proofs.MonthLaws.{first-day-suc, first-day-grows, days-end, month-is}
 
 -- a date lies in its month
 pub date-holds : (y m k : ℕ) → Real y m k → (monthNumber y m ≤ 1199) × Holds (monthNumber y m) (dayOf y m k)
@@ -27,12 +27,11 @@ one-date y m k n r e y′ m′ k′ r′ e′ =
     let f = ap firstDay t in
     omega arith
 
--- a day of a month that begins on the day s is a date
-pub dated : (m d s : ℕ) → m ≤ 1199 → Holds m d → s ≡ firstDay m
-    → Real (2000 + m / 12) (m % 12 + 1) (d - s + 1) × (dayOf (2000 + m / 12) (m % 12 + 1) (d - s + 1) ≡ d)
-dated m d s h o is =
+-- day k of the month m is a date
+pub dated : (m k : ℕ) → m ≤ 1199 → (1 ≤ k) × (k ≤ monthLength m)
+    → Real (2000 + m / 12) (m % 12 + 1) k × (dayOf (2000 + m / 12) (m % 12 + 1) k ≡ firstDay m + k - 1)
+dated m k h o =
     let e : monthNumber (2000 + m / 12) (m % 12 + 1) ≡ m = omega arith in
     let l = ap monthLength e in
     let f = ap firstDay e in
-    let n = first-day-suc m in
     (((omega arith, omega arith), (omega arith, omega arith), (omega arith, omega arith)), omega arith)

@@ -1,17 +1,17 @@
 -- The first days of months in closed form, and the laws of the month of a day. Assumes nothing.
-use mathlib.Core.Path.{_≡_, refl, sym, ap, subst, _∙_}
-use mathlib.Core.Bool.{Bool, true, false, cond, _&&_}
+use mathlib.Core.Path.{_≡_, refl, subst}
+use mathlib.Core.Bool.{cond}
 use mathlib.Core.List.{List, [], _∷_}
-use mathlib.Core.Logic.{_⊎_, inl, inr}
+use mathlib.Core.Logic.{inl, inr}
 use Prim.Native.Nat.{ℕ, zero, suc, _+_, _-_, _*_, _/_, _%_, _≤_, _<_}
 use native.Mathlib.Nat.{add-zero, add-suc, le-antisymm}
 use native.Mathlib.Numerals.{add-one}
 use native.Mathlib.Omega.{arith}
-use lib.Dec.{leb, eqb, lit≤, lit<}
+use lib.Dec.{leb, eqb}
 use lib.ListN.{getD}
 use Rattle.std.proofs.shelf.Ways.{tells}
 use Rattle.std.proofs.shelf.Tests.{leb-true, leb-false, cases-eq, cases-lt, cond-both}
-use Rattle.dates.specs.Months.{leapYear, yearOf, daysIn, monthLength, firstDay, begun, monthOf, Holds}
+use Rattle.dates.specs.Months.{leapYear, daysIn, monthLength, firstDay, begun, monthOf, Holds}
 
 pub first-day-zero : firstDay 0 ≡ 0
 unfolding firstDay
@@ -43,14 +43,14 @@ by-month P a b c d e f g h i j k l (suc (suc (suc (suc (suc (suc (suc (suc (suc 
 by-month P a b c d e f g h i j k l (suc (suc (suc (suc (suc (suc (suc (suc (suc (suc (suc (suc m)))))))))))) lt = absurd (omega arith)
 
 -- the days before each month of a common year
-abbrev before : List ℕ
+abbrev pub before : List ℕ
 before = 0 ∷ 31 ∷ 59 ∷ 90 ∷ 120 ∷ 151 ∷ 181 ∷ 212 ∷ 243 ∷ 273 ∷ 304 ∷ 334 ∷ []
 
 -- the first day of month k of the year 2000 + y
 abbrev pub start : ℕ → ℕ → ℕ
 start y k = 365 * y + (y + 3) / 4 + getD before k 0 + cond (leb 2 k) (cond (eqb (y % 4) 0) 1 0) 0
 
--- the month after month k of year y
+-- the first day of the month after it
 abbrev next : ℕ → ℕ → ℕ
 next y k = cond (eqb k 11) (start (y + 1) 0) (start y (k + 1))
 
@@ -78,6 +78,7 @@ first-day-is (suc m) =
           rw (y, k) (grind (arith, tells))
     ]
 
+-- a later month begins no earlier
 pub first-day-grows : (m k : ℕ) → m ≤ k → firstDay m ≤ firstDay k
 unfolding firstDay
 first-day-grows m k le = let e : m + (k - m) ≡ k = omega arith in rw e at (by (k - m))
@@ -86,6 +87,7 @@ first-day-grows m k le = let e : m + (k - m) ≡ k = omega arith in rw e at (by 
     by zero = rw add-zero (omega arith)
     by (suc j) = rw add-suc (omega (arith, by j))
 
+-- the month n, which is month k of the year 2000 + y, begins near 1461 / 48 * n
 abbrev Close : ℕ → ℕ → ℕ → Type 0
 Close n y k = (48 * start y k ≤ 1461 * n + 63) × (1461 * n ≤ 48 * start y k + 78)
 
@@ -100,7 +102,7 @@ near m =
     (λ y. grind (arith, tells)) (λ y. grind (arith, tells)) (λ y. grind (arith, tells)) (λ y. grind (arith, tells))
     (m % 12) (omega arith) (m / 12)))
 
--- the month before a day, or the one after that, if the day is not before it
+-- the day d lies in the month g or in the one after it
 pub guess-fits : (d g : ℕ) → g ≡ (48 * d - 63) / 1461 → (firstDay g ≤ d) × (d < firstDay (g + 2))
 guess-fits d zero e = omega (arith, first-day-zero, near 2)
 guess-fits d (suc g) e = omega (arith, near (suc g), near (suc g + 2))
@@ -169,6 +171,7 @@ pub month-is : (d m : ℕ) → firstDay m ≤ d → d < firstDay (m + 1) → m �
 month-is d m from to h =
     month-by d m (omega (arith, days-end, first-day-grows (m + 1) 1200 (omega arith))) (from, to)
 
+-- a later day has no earlier month
 pub month-grows : (d e : ℕ) → d ≤ e → monthOf d ≤ monthOf e
 unfolding monthOf begun
 month-grows d e h = by 1199

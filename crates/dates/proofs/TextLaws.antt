@@ -5,7 +5,6 @@ use Prim.Native.Nat.{ℕ, zero, suc, _+_, _-_, _*_, _/_, _%_, _≤_, _<_}
 use native.Mathlib.Omega.{arith}
 use lib.ListN.{length, getD, drop}
 use lib.Seq.{drop-cons, drop-length}
-use Rattle.dates.specs.Months.{monthLength}
 use Rattle.dates.specs.Dates.{monthNumber, Real, dateText, Digits, Formed, Undated}
 use Rattle.dates.proofs.MonthLaws.{length-bound}
 

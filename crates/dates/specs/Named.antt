@@ -1,4 +1,4 @@
--- What a `Date` says, and what is read from a text. Assumes nothing.
+-- The day number and the text of a `Date`, and what is read from a text. Assumes nothing.
 use mathlib.Core.Path.{_≡_}
 use mathlib.Core.List.{List}
 use Prim.Native.Nat.{ℕ}
@@ -10,9 +10,11 @@ use Rattle.dates.specs.declared.date.text.DateError.{DateError}
 use Rattle.dates.specs.declared.date.text.DateError.the-variants.{Form, NoSuchDate}
 use Rattle.dates.specs.Dates.{Real, dayOf, dateText, Formed, Undated}
 
+-- the day number of a date
 abbrev pub dayNumber : Date → ℕ
 dayNumber d = dayOf (d .year) (d .month) (d .day)
 
+-- the text of a date
 abbrev pub textOf : Date → List ℕ
 textOf d = dateText (d .year) (d .month) (d .day)
 

@@ -15,6 +15,7 @@ sinceSaturday Wednesday = 4
 sinceSaturday Thursday = 5
 sinceSaturday Friday = 6
 
+-- the name of a day of the week
 abbrev pub weekdayName : Weekday → List ℕ
 weekdayName Saturday = codes "Saturday"
 weekdayName Sunday = codes "Sunday"

@@ -2,6 +2,7 @@ ghost use mathlib.Core.Path.{_≡_};
 ghost use Rattle.dates.specs.Dates.{Real};
 
 mod days;
+mod digits;
 mod text;
 
 pub use text::DateDisplay;

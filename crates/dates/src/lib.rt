@@ -1,8 +1,8 @@
 ghost use mathlib.Core.Path.{_≡_};
-ghost use Prim.Native.Nat.{ℕ, _≤_};
+ghost use Prim.Native.Nat.{ℕ, _+_, _≤_, _<_};
 ghost use Rattle.std.specs.Numbers.{Checked};
 ghost use Rattle.std.specs.Slices.{found};
-ghost use Rattle.dates.specs.Months.{monthLength, firstDay, monthOf, Holds};
+ghost use Rattle.dates.specs.Months.{daysIn, monthLength, firstDay, monthOf, Holds};
 
 mod date;
 mod week;
@@ -33,6 +33,19 @@ pub const LAST_MONTH: u32 = 1_199;
 // The days before each month of a common year.
 const BEFORE: [u32; 12] = [0, 31, 59, 90, 120, 151, 181, 212, 243, 273, 304, 334];
 
+// The days of a month of the year, January being 0.
+fn days_in(of_year: u32, leap: bool) -> u32
+    ensures value { λ r. ⌜ r ≡ daysIn leap «of_year» ⌝ }
+    ensures bound { λ r. ⌜ (28 ≤ r) × (r ≤ 31) ⌝ }
+{
+    match of_year {
+        1 if leap => 29,
+        1 => 28,
+        3 | 5 | 8 | 10 => 30,
+        _ => 31,
+    }
+}
+
 // The days of a month.
 pub fn month_length(month: u32) -> Option<u32>
     ensures value { λ r. ⌜ Checked r (month ≤ 1199) (monthLength month) ⌝ }
@@ -41,20 +54,14 @@ pub fn month_length(month: u32) -> Option<u32>
     if month > LAST_MONTH {
         return None;
     }
-    Some(
-        match month % 12 {
-            1 if month / 12 % 4 == 0 => 29,
-            1 => 28,
-            3 | 5 | 8 | 10 => 30,
-            _ => 31,
-        },
-    )
+    Some(days_in(month % 12, month / 12 % 4 == 0))
 }
 
 // The first day of a month, or of the month after the last.
 fn start(month: u32) -> u32
     requires { ⌜ month ≤ 1200 ⌝ }
-    ensures { λ r. ⌜ r ≡ firstDay month ⌝ }
+    ensures value { λ r. ⌜ r ≡ firstDay month ⌝ }
+    ensures bound { λ r. ⌜ (month ≤ 1199 → r ≤ 36494) ⌝ }
 {
     let years = month / 12;
     let of_year = month % 12;
@@ -74,10 +81,11 @@ pub fn first_day(month: u32) -> Option<u32>
     }
 }
 
-// The month of a day: 1461 days have 48 months, and no month begins much later than by that measure.
+// The month of a day. 48 months have 1461 days, and no month begins more than 63 / 48 days late by that measure.
 pub fn month_of(day: u32) -> Option<u32>
     ensures value { λ r. ⌜ Checked r (day ≤ 36524) (monthOf day) ⌝ }
     ensures holds { λ r. ⌜ found r (λ m. (m ≤ 1199) × Holds m day) ⌝ }
+    ensures within { λ r. ⌜ found r (λ m. day < firstDay m + monthLength m) ⌝ }
 {
     if day > LAST_DAY {
         return None;

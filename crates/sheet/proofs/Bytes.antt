@@ -3,15 +3,15 @@ use mathlib.Core.Path.{_≡_, refl, sym, ap, _∙_, subst}
 use mathlib.Core.List.{List, [], _∷_, _++_, map}
 use Prim.Native.Nat.{ℕ, zero, suc, _+_, _-_, _*_, _/_, _%_, _^_, _≤_, _<_}
 use native.Mathlib.Omega.{arith}
-use native.Mathlib.Nat.{pow-suc, div-lt-iff-lt-mul}
-use lib.Lanes.{numberL, digitsL, chunk}
+use native.Mathlib.Nat.{pow-suc}
+use lib.Lanes.{chunk}
 use lib.ListN.{length, getD, take, drop}
 use lib.Seq.{take-add}
 use Rattle.std.specs.Iters.{counting}
 use Rattle.std.specs.shelf.Lists.{All}
 use Rattle.std.proofs.shelf.Counted.{fill-by-all}
 use Rattle.std.proofs.shelf.Bits.{div-below}
-use Rattle.std.proofs.shelf.Lists.{take-at, drop-at, drop-drop, length-append, take-take, drop-take, take-append-drop, take-append-le}
+use Rattle.std.proofs.shelf.Lists.{drop-at, drop-drop, take-take, drop-take}
 use Rattle.sheet.specs.Sheet.{little, number}
 
 pub length-little : (k n : ℕ) → length (little k n) ≡ k

@@ -1,19 +1,18 @@
 -- From what reading found to what the bytes are. Assumes nothing.
-use mathlib.Core.Path.{_≡_, refl, sym, ap, _∙_, subst}
+use mathlib.Core.Path.{_≡_, sym, ap, _∙_, subst}
 use mathlib.Core.Bool.{true, false}
 use mathlib.Core.List.{List}
-use Prim.Native.Nat.{ℕ, _+_, _-_, _*_, _≤_, _<_}
+use Prim.Native.Nat.{ℕ, _-_, _<_}
 use native.Mathlib.Omega.{arith}
 use mir.Syntax.{w8}
 use mir.Val.{Fits}
-use lib.ListN.{length, getD, take}
+use lib.ListN.{getD}
 use Rattle.std.specs.Options.{Cases, isSome}
 use Rattle.std.specs.Results as results
 use Rattle.std.specs.declared.option.Option.{Option}
 use Rattle.std.specs.declared.option.Option.the-variants.{Some, None}
 use Rattle.std.specs.declared.result.Result.{Result}
 use Rattle.std.specs.declared.result.Result.the-variants.{Ok, Err}
-use Rattle.std.specs.shelf.Lists.{All}
 use Rattle.std.proofs.shelf.Elements.{all-from-getD}
 use Rattle.std.proofs.shelf.Tests.{true≢false, false≢true}
 use Rattle.sheet.specs.declared.code.ContractCode.{ContractCode}
@@ -21,11 +20,11 @@ use Rattle.sheet.specs.declared.trade.Trade.{Trade}
 use Rattle.sheet.specs.declared.trade.SheetFault.{SheetFault}
 use Rattle.sheet.specs.declared.trade.SheetFault.the-variants.{Length, Count, Day, Code}
 use Rattle.sheet.specs.declared.view.SheetView.{SheetView}
-use Rattle.sheet.specs.Codes.{codeBytes, monthOf, lastMonth, IsCode, Names, NoCode}
-use Rattle.sheet.specs.Sheet.{sheetBytes, Valid, Sheet, Framed, Refused, OnDay, dayOf, countOf, codeOf, linesOf, tradesOf}
-use Rattle.sheet.specs.Views.{viewBytes, viewDay, viewTrades, Sound, Accepted, NoSheet, Outcome, ReadsBack}
+use Rattle.sheet.specs.Codes.{monthOf, IsCode, Names, NoCode}
+use Rattle.sheet.specs.Sheet.{sheetBytes, Valid, Sheet, Refused, OnDay, dayOf, linesOf, tradesOf}
+use Rattle.sheet.specs.Views.{viewBytes, viewDay, viewTrades, Sound, Accepted, Outcome, ReadsBack}
 use Rattle.sheet.proofs.CodeLaws.{is-code}
-use Rattle.sheet.proofs.SheetLaws.{Bytes, length-lines, Back, written-back, read-back, read-valid}
+use Rattle.sheet.proofs.SheetLaws.{Bytes, length-lines, written-back, read-back, read-valid}
 
 pub bytes-from-fits : (b : List ℕ) → ((i : ℕ) → Fits w8 (getD b i 0)) → Bytes b
 bytes-from-fits b h = all-from-getD (λ x. x < 256) b 0 (λ i _. h i .fits)

@@ -1,12 +1,11 @@
 -- What is written is read as its trades, and what is read is written as its bytes. Assumes nothing.
 use mathlib.Core.Path.{_≡_, refl, sym, ap, _∙_, subst}
-use mathlib.Core.List.{List, [], _∷_, _++_, map, append-assoc}
-use Prim.Native.Nat.{ℕ, zero, suc, _+_, _-_, _*_, _^_, _≤_, _<_}
+use mathlib.Core.List.{List, [], _++_, append-assoc}
+use Prim.Native.Nat.{ℕ, _+_, _-_, _*_, _^_, _≤_, _<_}
 use native.Mathlib.Omega.{arith}
 use borrow.Rule.Slice.PartMut.{putMid}
 use lib.Lanes.{chunk}
 use lib.ListN.{length, getD, take, drop}
-use Rattle.std.specs.Iters.{counting}
 use Rattle.std.specs.shelf.Lists.{All, joined}
 use Rattle.std.proofs.shelf.Counted.{fill-by-all, length-map-counting, getD-map-counting}
 use Rattle.std.proofs.shelf.Elements.{all-take, all-drop, all-getD, all-from-getD}
@@ -17,7 +16,7 @@ use Rattle.std.specs.shelf.Maps.{nth}
 use Rattle.std.specs.declared.option.Option.the-variants.{Some, None}
 use Rattle.sheet.specs.declared.trade.Trade.{Trade}
 use Rattle.sheet.specs.Codes.{codeBytes, lastMonth, monthOf, IsCode}
-use Rattle.sheet.specs.Sheet.{little, number, sides, terms, sheetBytes, mostTrades, Listable, FitsLine, Valid, countOf, dayOf, sidesAt, termsAt, codeOf, tradeFrom, linesOf, tradesOf, Framed, Sheet}
+use Rattle.sheet.specs.Sheet.{little, number, sides, terms, sheetBytes, mostTrades, FitsLine, Valid, countOf, dayOf, sidesAt, termsAt, codeOf, tradeFrom, linesOf, tradesOf, Sheet}
 use Rattle.sheet.proofs.CodeLaws.{month-back, is-code}
 use Rattle.sheet.proofs.Bytes.{number-little, little-number, number-below, chunk-past, chunk-chunk, chunk-split}
 use Rattle.sheet.proofs.Rows.{length-joined, row-joined, joined-rows, part-more, three-parts}

@@ -1,9 +1,12 @@
+ghost use mathlib.Core.Path.{_≡_};
 ghost use Prim.Native.Nat.{ℕ};
 ghost use Rattle.std.specs.declared.option.Option.the-variants.{Some};
 ghost use Rattle.std.specs.Options.{Cases};
 ghost use Rattle.dates.specs.Dates.{Digits, Numbers, Formed};
 ghost use Rattle.dates.specs.Named.{textOf, Reads, message};
 use crate::date::Date;
+use crate::date::digits::TwoDigits;
+use crate::date::digits::TwoDigitsDisplay;
 use std::fmt;
 use std::str::FromStr;
 
@@ -14,15 +17,22 @@ pub enum DateError {
     NoSuchDate,
 }
 
+impl DateError {
+    fn text(&self) -> &'static str
+        ensures { λ r. ⌜ now r ≡ message (now (self .entry)) ⌝ }
+    {
+        match self {
+            DateError::Form => "a date is written as 2026-12-30",
+            DateError::NoSuchDate => "there is no such date from 2000-01-01 to 2099-12-31",
+        }
+    }
+}
+
 pub impl fmt::Display for DateError as DateErrorDisplay {
     ghost shown = { λ e. Some (message e) };
 
     fn fmt<W: fmt::Write>(&self, f: &mut fmt::Formatter<W>) -> fmt::Result {
-        let text = match self {
-            DateError::Form => "a date is written as 2026-12-30",
-            DateError::NoSuchDate => "there is no such date from 2000-01-01 to 2099-12-31",
-        };
-        write!(f, "{text}")
+        write!(f, "{}", self.text())
     }
 }
 
@@ -30,19 +40,11 @@ pub impl fmt::Display for Date as DateDisplay {
     ghost shown = { λ d. Some (textOf d) };
 
     fn fmt<W: fmt::Write>(&self, f: &mut fmt::Formatter<W>) -> fmt::Result {
-        let (century, year) = (self.year / 100, self.year % 100);
-        write!(
-            f,
-            "{}{}{}{}-{}{}-{}{}",
-            century / 10,
-            century % 10,
-            year / 10,
-            year % 10,
-            self.month / 10,
-            self.month % 10,
-            self.day / 10,
-            self.day % 10
-        )
+        let century = TwoDigits::new(self.year / 100);
+        let year = TwoDigits::new(self.year % 100);
+        let month = TwoDigits::new(self.month);
+        let day = TwoDigits::new(self.day);
+        write!(f, "{century}{year}-{month}-{day}")
     }
 }
 

@@ -1,6 +1,5 @@
-use mathlib.Core.Path.{_≡_, refl, subst}
+use mathlib.Core.Path.{refl, subst}
 use Prim.Native.Nat.{_≤_}
-use native.Mathlib.Omega.{arith}
 use borrow.Author.Needs.{needs}
 use Rattle.std.proofs.shelf.Elements.{all-getD, all-more}
 use Rattle.std.proofs.shelf.Lists.{take-all}

@@ -2,7 +2,7 @@ use mathlib.Core.Path.{_≡_, _∙_, ap}
 use mathlib.Core.List.{_++_}
 use lib.ListN.{length}
 use Rattle.sheet.specs.Codes.{codeBytes}
-use Rattle.sheet.specs.Sheet.{little, terms}
+use Rattle.sheet.specs.Sheet.{little}
 use Rattle.sheet.proofs.Bytes.{little-four}
 use Rattle.sheet.proofs.Rows.{three-parts, nothing-left}
 use Rattle.sheet.proofs.SheetLaws.{same-three}

@@ -1,4 +1,4 @@
-use mathlib.Core.Path.{_≡_, subst, sym}
+use mathlib.Core.Path.{_≡_, subst}
 use borrow.Author.Count.{below-more}
 use lib.ListN.{take}
 use Rattle.sheet.specs.Codes.{IsCode}
