@@ -119,7 +119,8 @@ session-later k from to h e =
 pub session-none : (k : ℕ → DayKind) (from to : ℕ) → to ≤ from → firstSession k from to ≡ None
 session-none k from to h = ap firstOf (days-none isSession k from to h)
 
-past-last : (k : ℕ → DayKind) → ((d : ℕ) → 36524 < d → k d ≡ Closed) → (t : DayKind → Bool) → t Closed ≡ false → (d : ℕ) → 36525 ≤ d → t (k d) ≡ false
+-- past the end of the calendar no day passes
+pub past-last : (k : ℕ → DayKind) → ((d : ℕ) → 36524 < d → k d ≡ Closed) → (t : DayKind → Bool) → t Closed ≡ false → (d : ℕ) → 36525 ≤ d → t (k d) ≡ false
 past-last k ends t e d h = ap t (ends d (omega arith)) ∙ e
 
 -- a count that stops at the end of the calendar

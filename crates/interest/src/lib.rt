@@ -1,8 +1,10 @@
-// Interest of the one-day rate: powers and roots of factors, day factors, trade prices and ticks.
+// Interest of the one-day rate: powers and roots of factors, day factors, trade prices, ticks and corrected prices.
+mod corrections;
 mod powers;
 mod prices;
 mod ticks;
 
+pub use corrections::correct_day;
 pub use powers::power;
 pub use powers::root;
 pub use prices::Unpriceable;

@@ -1,0 +1,5 @@
+pub mod Emptiness
+pub mod Laws
+pub mod Layering
+pub mod Listing
+pub mod Refusing
