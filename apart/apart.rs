@@ -1,4 +1,5 @@
-// Prices the trades of DI1 sheets, and shows and makes the sheets.
+// Prices the trades of DI1 sheets, corrects settlement prices, and shows and
+// makes the sheets.
 // Every rule is written in the plainest way, one step at a time.
 
 use std::env;
@@ -114,8 +115,9 @@ fn read_number(word: &str) -> Option<u32> {
     Some(value as u32)
 }
 
-/// A percentage, in units of the last of `decimals` digits after the point.
-fn read_rate(word: &str, decimals: usize) -> Option<u32> {
+/// A number, and where there is a point after it 1 to `decimals` more digits;
+/// in units of the last of `decimals` digits.
+fn read_decimal(word: &str, decimals: usize) -> Option<u64> {
     let (whole, fraction) = match word.split_once('.') {
         Some((whole, fraction)) => (whole, Some(fraction)),
         None => (word, None),
@@ -130,16 +132,31 @@ fn read_rate(word: &str, decimals: usize) -> Option<u32> {
         given = fraction.len();
         value = value * 10u64.pow(given as u32) + part;
     }
-    value *= 10u64.pow((decimals - given) as u32);
+    Some(value * 10u64.pow((decimals - given) as u32))
+}
+
+/// A percentage, at most 4,294,967,295 units of the last digit.
+fn read_rate(word: &str, decimals: usize) -> Option<u32> {
+    let value = read_decimal(word, decimals)?;
     if value > HIGHEST_NUMBER {
         return None;
     }
     Some(value as u32)
 }
 
+/// A number of points, in centavos.
+fn read_price(word: &str) -> Option<u64> {
+    read_decimal(word, 2).filter(|&price| price <= HIGHEST_NUMBER)
+}
+
 /// A dealt rate in thousandths of a percent: 10.000
 fn rate_text(rate: u32) -> String {
     format!("{}.{:03}", rate / 1000, rate % 1000)
+}
+
+/// A DI rate in millionths of a percent: 10.000000
+fn di_rate_text(di_rate: u32) -> String {
+    format!("{}.{:06}", di_rate / 1_000_000, di_rate % 1_000_000)
 }
 
 /// A price in centavos, in points: 99 924.39
@@ -222,8 +239,8 @@ impl Calendar {
     }
 
     /// The reserve days from a day, included, to another, excluded.
-    fn reserve_days(&self, from: u32, to: u32) -> u32 {
-        (from..to).filter(|&day| self.kind(day) != Kind::Closed).count() as u32
+    fn reserve_days(&self, from: u32, to: u32) -> Vec<u32> {
+        (from..to).filter(|&day| self.kind(day) != Kind::Closed).collect()
     }
 }
 
@@ -293,6 +310,94 @@ fn on_tick(rate: u32, distance: i64) -> bool {
     } else {
         rate % 10 == 0
     }
+}
+
+// --------------------------------------------------------------- rates
+
+const MOST_ARBITRATED: usize = 16;
+
+/// A table of DI rates under an arbitration layer.
+struct Rates {
+    first_day: u32,
+    /// The published rate of each day of the horizon, from the first day on.
+    published: Vec<Option<u32>>,
+    /// The arbitrated days with their rates.
+    arbitrated: Vec<(u32, u32)>,
+}
+
+impl Rates {
+    fn table(first_day: u32, count: u32) -> Rates {
+        Rates { first_day, published: vec![None; count as usize], arbitrated: Vec::new() }
+    }
+
+    /// The place of a day in the horizon.
+    fn place(&self, day: u32) -> Option<usize> {
+        let place = day.checked_sub(self.first_day)? as usize;
+        if place < self.published.len() {
+            Some(place)
+        } else {
+            None
+        }
+    }
+
+    fn published_rate(&self, day: u32) -> Option<u32> {
+        self.published[self.place(day)?]
+    }
+
+    fn arbitrated_rate(&self, day: u32) -> Option<u32> {
+        self.arbitrated.iter().find(|(arbitrated, _)| *arbitrated == day).map(|(_, rate)| *rate)
+    }
+
+    /// The rate of a day and where it comes from.
+    fn rate(&self, day: u32) -> Option<(u32, &'static str)> {
+        if let Some(rate) = self.published_rate(day) {
+            return Some((rate, "published"));
+        }
+        self.arbitrated_rate(day).map(|rate| (rate, "arbitrated"))
+    }
+
+    /// The place of a day that may be given this rate, or the refusal.
+    fn free_place(&self, day: u32, rate: u32) -> Result<usize, String> {
+        let Some(place) = self.place(day) else {
+            return Err(refused(21, "day outside the horizon"));
+        };
+        if self.rate(day).is_some() {
+            return Err(refused(22, "day has a rate"));
+        }
+        if rate > HIGHEST_DI_RATE {
+            return Err(refused(23, "DI rate over 99,999,999"));
+        }
+        Ok(place)
+    }
+
+    /// The period is always 1 here, so it refuses nothing.
+    fn publish(&mut self, day: u32, rate: u32) -> Result<(), String> {
+        let place = self.free_place(day, rate)?;
+        self.published[place] = Some(rate);
+        Ok(())
+    }
+
+    fn arbitrate(&mut self, day: u32, rate: u32) -> Result<(), String> {
+        self.free_place(day, rate)?;
+        if self.arbitrated.len() >= MOST_ARBITRATED {
+            return Err(refused(25, "16 days arbitrated already"));
+        }
+        self.arbitrated.push((day, rate));
+        Ok(())
+    }
+}
+
+fn refused(number: u32, message: &str) -> String {
+    format!("refused {number}: {message}")
+}
+
+// ---------------------------------------------------- corrected prices
+
+const MOST_CORRECTED_DAYS: usize = 252;
+
+/// A price in centavos carried over one reserve day, halves up.
+fn carry(price: u64, factor: u64) -> u64 {
+    ((u128::from(price) * u128::from(factor) + 50_000_000) / 100_000_000) as u64
 }
 
 // ------------------------------------------------------ contract codes
@@ -451,45 +556,92 @@ fn read_exception(words: &[&str]) -> Result<Exception, String> {
     Ok(Exception { day, kind })
 }
 
-/// The calendar of an office file.
-fn read_office(file: &OsString) -> Result<Calendar, String> {
+/// A calendar, and the rates where the office has any.
+struct Office {
+    calendar: Calendar,
+    rates: Option<Rates>,
+}
+
+const MOST_RATES: u32 = 36_525;
+
+/// The empty table of a `rates` line.
+fn read_rates(words: &[&str]) -> Result<Rates, String> {
+    let [_, "table", first, count] = words else {
+        return Err("expected: rates table FIRST COUNT".to_string());
+    };
+    let first_day = read_date(first).ok_or(format!("no date: {first}"))?;
+    let days = read_number(count).ok_or(format!("no number: {count}"))?;
+    if days > MOST_RATES {
+        return Err("over 36525 days".to_string());
+    }
+    Ok(Rates::table(first_day, days))
+}
+
+/// The day and the DI rate of a `rate` or `arbitrate` line.
+fn read_day_rate(words: &[&str]) -> Result<(u32, u32), String> {
+    let [_, date, percent] = words else {
+        return Err(format!("expected: {} DATE PERCENT", words[0]));
+    };
+    let day = read_date(date).ok_or(format!("no date: {date}"))?;
+    let rate = read_rate(percent, 6).ok_or(format!("no rate: {percent}"))?;
+    Ok((day, rate))
+}
+
+/// Publishes or arbitrates what a line says.
+fn add_rate(rates: &mut Option<Rates>, words: &[&str]) -> Result<(), String> {
+    let Some(rates) = rates else {
+        return Err("no rates line before".to_string());
+    };
+    let (day, rate) = read_day_rate(words)?;
+    if words[0] == "rate" {
+        rates.publish(day, rate)
+    } else {
+        rates.arbitrate(day, rate)
+    }
+}
+
+/// The bytes of a marked calendar, or none for a rule calendar.
+fn read_calendar(words: &[&str]) -> Result<Option<Vec<u8>>, String> {
+    match words {
+        ["calendar", "rule"] => Ok(None),
+        ["calendar", "marked", name] => read_file(&OsString::from(name)).map(Some),
+        ["calendar", ..] => Err("expected: calendar rule, or calendar marked FILE".to_string()),
+        _ => Err("no calendar line".to_string()),
+    }
+}
+
+fn read_office(file: &OsString) -> Result<Office, String> {
     let text = read_text_file(file)?;
     let lines = lines_of_words(&text);
     let Some(first) = lines.first() else {
         return Err(at_line(file, 1, "no calendar line"));
     };
-    let first_message = |message: &str| at_line(file, first.number, message);
-
-    // The bytes of a marked calendar, or none for a rule calendar.
-    let marks = match first.words[..] {
-        ["calendar", "rule"] => None,
-        ["calendar", "marked", name] => {
-            let bytes = read_file(&OsString::from(name));
-            Some(bytes.map_err(|message| first_message(&message))?)
-        }
-        ["calendar", ..] => {
-            return Err(first_message("expected: calendar rule, or calendar marked FILE"));
-        }
-        _ => return Err(first_message("no calendar line")),
-    };
+    let marks = read_calendar(&first.words)
+        .map_err(|message| at_line(file, first.number, &message))?;
 
     let mut exceptions = Vec::new();
+    let mut rates = None;
     for line in &lines[1..] {
-        let exception = match line.words[0] {
+        let words = &line.words;
+        let taken = match words[0] {
             "calendar" => Err("a second calendar".to_string()),
             "exception" if marks.is_some() => {
                 Err("a marked calendar takes no exception".to_string())
             }
-            "exception" => read_exception(&line.words),
+            "exception" => read_exception(words).map(|exception| exceptions.push(exception)),
+            "rates" if rates.is_some() => Err("a second rates line".to_string()),
+            "rates" => read_rates(words).map(|table| rates = Some(table)),
+            "rate" | "arbitrate" => add_rate(&mut rates, words),
             other => Err(format!("unknown word: {other}")),
         };
-        exceptions.push(exception.map_err(|message| at_line(file, line.number, &message))?);
+        taken.map_err(|message| at_line(file, line.number, &message))?;
     }
 
-    Ok(match marks {
+    let calendar = match marks {
         Some(bytes) => Calendar::marked(&bytes),
         None => Calendar::rule(&exceptions),
-    })
+    };
+    Ok(Office { calendar, rates })
 }
 
 // -------------------------------------------------------------- prices
@@ -509,7 +661,7 @@ fn tell(calendar: &Calendar, session_day: u32, session_month: u32, trade: &Trade
     if expiry <= session_day {
         return Told { expiry: Some(expiry), reserve_days: None, price: Err("expired") };
     }
-    let reserve_days = calendar.reserve_days(session_day, expiry);
+    let reserve_days = calendar.reserve_days(session_day, expiry).len() as u32;
     let distance = i64::from(trade.month) - i64::from(session_month);
     let price = if trade.rate > HIGHEST_RATE {
         Err("rate over 99.999 %")
@@ -553,7 +705,7 @@ fn row(line: usize, trade: &Trade, told: &Told) -> String {
 const HEADING: &str = "line  rate buyer  rate seller  PU buyer  PU seller  code    expiry      days    rate %  contracts          PU";
 
 fn prices(office_file: &OsString, sheet_file: &OsString) -> Result<String, String> {
-    let calendar = read_office(office_file)?;
+    let calendar = read_office(office_file)?.calendar;
     let sheet = read_sheet_file(sheet_file)?;
     let session_day = sheet.session_day;
     let session = date_text(session_day).unwrap_or(format!("day {session_day}"));
@@ -602,6 +754,55 @@ fn month_totals(trades: &[Trade]) -> String {
         print += &format!("{}: {lines}, {contracts}\n", code_text(month));
     }
     print
+}
+
+// ------------------------------------------------------------- correct
+
+const LOWEST_PRICE: u64 = 1;
+const HIGHEST_PRICE: u64 = 10_000_000;
+
+/// The heading or a row of the print of a correction.
+fn correct_row(day: &str, rate: &str, source: &str, factor: &str, price: &str) -> String {
+    format!("{day:<11}  {rate:>9}  {source:<10}  {factor:>10}  {price:>10}\n")
+}
+
+fn correct(office_file: &OsString, from: &str, to: &str, price: &str) -> Result<String, String> {
+    let office = read_office(office_file)?;
+    let from_day = read_date(from).ok_or(format!("no date: {from}"))?;
+    let to_day = read_date(to).ok_or(format!("no date: {to}"))?;
+    let first_price = read_price(price).ok_or(format!("no price: {price}"))?;
+    if first_price < LOWEST_PRICE || first_price > HIGHEST_PRICE {
+        return Err("price not from 0.01 to 100 000.00".to_string());
+    }
+    if to_day < from_day {
+        return Err("TO is before FROM".to_string());
+    }
+    let reserve_days = office.calendar.reserve_days(from_day, to_day);
+    if reserve_days.len() > MOST_CORRECTED_DAYS {
+        return Err("over 252 reserve days".to_string());
+    }
+
+    let mut print = format!("from {from} at {}\n", price_text(first_price));
+    print += &correct_row("reserve day", "rate %", "source", "factor", "price");
+    let mut price = first_price;
+    let mut alone = None; // the first price carried by the last rate only
+    for &day in &reserve_days {
+        let date = date_text(day).unwrap(); // it is before TO, which is a date
+        let Some((rate, source)) = office.rates.as_ref().and_then(|rates| rates.rate(day)) else {
+            return Err(format!("no rate for {date}"));
+        };
+        let factor = day_factor(rate);
+        price = carry(price, factor);
+        alone = Some(carry(first_price, factor));
+        let (rate, factor) = (di_rate_text(rate), factor_text(factor));
+        print += &correct_row(&date, &rate, source, &factor, &price_text(price));
+    }
+    let days = counted(reserve_days.len() as u64, "reserve day");
+    print += &format!("to {to}: {} over {days}\n", price_text(price));
+    if let Some(alone) = alone {
+        print += &format!("by the last rate alone: {}\n", price_text(alone));
+    }
+    Ok(print)
 }
 
 // --------------------------------------------------- sheet show and make
@@ -720,12 +921,13 @@ fn factor_command(rate: &str) -> Result<String, String> {
 // ------------------------------------------------------------- commands
 
 const HELP: &str = "\
-settle prices OFFICE SHEET       prices every line of a sheet on the office's calendar
-settle sheet show FILE           prints a sheet as text
-settle sheet make TEXTFILE FILE  writes the sheet that a text describes
-settle price RATE DAYS           the price of a dealt rate over a number of reserve days
-settle factor RATE               the day factor of a DI rate
-settle help                      this list
+settle prices OFFICE SHEET           prices every line of a sheet on the office's calendar
+settle correct OFFICE FROM TO PRICE  carries a settlement price over the reserve days of a gap
+settle sheet show FILE               prints a sheet as text
+settle sheet make TEXTFILE FILE      writes the sheet that a text describes
+settle price RATE DAYS               the price of a dealt rate over a number of reserve days
+settle factor RATE                   the day factor of a DI rate
+settle help                          this list
 ";
 
 /// What the command prints, or the message after `settle: `.
@@ -734,6 +936,7 @@ fn run(arguments: &[OsString]) -> Result<String, String> {
     let words: Vec<&str> = texts.iter().map(String::as_str).collect();
     match words[..] {
         ["prices", _, _] => prices(&arguments[1], &arguments[2]),
+        ["correct", _, from, to, price] => correct(&arguments[1], from, to, price),
         ["sheet", "show", _] => sheet_show(&arguments[2]),
         ["sheet", "make", _, _] => sheet_make(&arguments[2], &arguments[3]),
         ["price", rate, days] => price_command(rate, days),

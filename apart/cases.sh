@@ -31,6 +31,13 @@ office() {
   run prices office.txt sheet.bin
 }
 
+# A correction on an office file of the given text; then FROM, TO and PRICE.
+correct() {
+  printf '\n# office.txt: %q' "$1"
+  printf "$1" >office.txt
+  run correct office.txt "${@:2}"
+}
+
 # The same with a text for a sheet; made.bin is to be left alone by a refusal.
 make() {
   printf '\n# text.txt: %q' "$1"
@@ -76,6 +83,33 @@ priced() { # text file, office file
   run prices "$2" first.bin
 }
 
+# Lines of a word, a date and a rate for so many days from day number $2 on;
+# the rate is $4, or another one each day where there is none.
+days() { # word, first day, count, rate
+  awk -v word="$1" -v first="$2" -v count="$3" -v rate="$4" '
+    function length_of(year, month) {
+      if (month == 2) return year % 4 ? 28 : 29
+      return (month == 4 || month == 6 || month == 9 || month == 11) ? 30 : 31
+    }
+    BEGIN {
+      year = 2000; month = 1; left = first; state = 7919
+      while (left >= length_of(year, month)) {
+        left -= length_of(year, month)
+        if (++month > 12) { month = 1; year++ }
+      }
+      for (i = 0; i < count; i++) {
+        state = (state * 69069 + 12345) % 4294967296
+        part = int(state / 65536)
+        percent = rate != "" ? rate : sprintf("%d.%06d", part % 100, part * 15 % 1000000)
+        printf "%s %04d-%02d-%02d %s\n", word, year, month, left + 1, percent
+        if (++left == length_of(year, month)) {
+          left = 0
+          if (++month > 12) { month = 1; year++ }
+        }
+      }
+    }'
+}
+
 # so many bytes of one value: 100 '\2'
 repeat() { head -c "$1" /dev/zero | tr '\0' "$2"; }
 
@@ -108,6 +142,13 @@ run help more
 run prices
 run prices rule.txt
 run prices rule.txt sheet.bin more
+run correct
+run correct rule.txt
+run correct rule.txt 2026-12-30
+run correct rule.txt 2026-12-30 2027-01-04
+run correct rule.txt 2026-12-30 2027-01-04 99925.00 more
+run correct missing.txt x y
+run Correct rule.txt 2026-12-30 2026-12-30 99925.00
 run sheet
 run sheet show
 run sheet show sheet.bin more
@@ -131,6 +172,10 @@ run prices missing.txt missing.bin
 run prices a-folder sheet.bin
 run prices rule.txt a-folder
 run prices not-utf8.txt sheet.bin
+run correct missing.txt 2026-12-30 2027-01-04 99925.00
+run correct missing.txt x y z
+run correct a-folder 2026-12-30 2027-01-04 99925.00
+run correct not-utf8.txt 2026-12-30 2027-01-04 99925.00
 run sheet show missing.bin
 run sheet show a-folder
 run sheet make missing.txt made.bin
@@ -520,3 +565,323 @@ echo 'the text and the sheet are one file'
 cp two.txt same
 run sheet make same same
 bytes same
+
+# ------------------------------------------------------------------
+part 'correct: the print of PROGRAM.md'
+turn='calendar rule\nexception 2027-01-01 closed\nexception 2026-12-31 reserve\nrates table 2026-12-28 10\n'
+example="${turn}rate 2026-12-30 10\narbitrate 2026-12-31 10\n"
+correct "$example" 2026-12-30 2027-01-04 99925.00
+
+part 'correct: the figures of RULES.md'
+printf 'calendar marked every-day.bin\nrates table 2026-12-01 31\n' >ten.txt
+days rate 9831 31 10 >>ten.txt
+run correct ten.txt 2026-12-01 2026-12-02 90909.09
+run correct ten.txt 2026-12-01 2026-12-03 90909.09
+run correct ten.txt 2026-12-01 2026-12-03 99925
+
+part 'rates: messages of the office file, by prices and by correct'
+both() {
+  office "$1"
+  run correct office.txt 2026-12-30 2026-12-30 1
+}
+both 'rates table 2026-12-28 10\ncalendar rule\n'
+both 'rate 2026-12-30 10\ncalendar rule\n'
+both 'arbitrate 2026-12-30 10\n'
+both 'calendar rule\nrates table 2026-12-28 10\nrates table 2026-12-28 10\n'
+both 'calendar rule\nrates table 2026-12-28 10\n\nrates\n'
+both 'calendar rule\nrates table 2026-12-28 10\n# a note\nrates x y z w\n'
+both 'calendar rule\nrates table 2026-12-28 0\nrates table 2026-12-28 10\n'
+both 'calendar rule\nrates\n'
+both 'calendar rule\nrates table\n'
+both 'calendar rule\nrates table 2026-12-28\n'
+both 'calendar rule\nrates table 2026-12-28 10 more\n'
+both 'calendar rule\nrates table 2026-12-28 10 # a note\n'
+both 'calendar rule\nrates 2026-12-28 10\n'
+both 'calendar rule\nrates flat 2026-12-28 10\n'
+both 'calendar rule\nrates Table 2026-12-28 10\n'
+both 'calendar rule\nrates flat x y\n'
+both 'calendar rule\nrates table x y\n'
+both 'calendar rule\nrates table 2026-12-32 10\n'
+both 'calendar rule\nrates table 2026-12-32 36526\n'
+both 'calendar rule\nrates table 1999-12-31 10\n'
+both 'calendar rule\nrates table 2100-01-01 10\n'
+both 'calendar rule\nrates table 2026-12-28 y\n'
+both 'calendar rule\nrates table 2026-12-28 -1\n'
+both 'calendar rule\nrates table 2026-12-28 1.0\n'
+both 'calendar rule\nrates table 2026-12-28 4294967296\n'
+both 'calendar rule\nrates table 2026-12-28 4294967295\n'
+both 'calendar rule\nrates table 2026-12-28 36526\n'
+both 'calendar rule\nrates table 2026-12-28 36525\n'
+both 'calendar rule\nrates table 2026-12-28 0000036525\n'
+both 'calendar rule\nrates table 2026-12-28 0\n'
+both 'calendar rule\nrates table 2099-12-31 36525\n'
+both 'calendar rule\nrates table 2000-01-01 36525\n'
+both 'calendar rule\nrate 2026-12-30 10\n'
+both 'calendar rule\narbitrate 2026-12-30 10\n'
+both 'calendar rule\nrate\nrates table 2026-12-28 10\n'
+both 'calendar rule\narbitrate x y z\nrates table 2026-12-28 10\n'
+both 'calendar rule\nrates table 2026-12-28 10\nrate\n'
+both 'calendar rule\nrates table 2026-12-28 10\nrate 2026-12-30\n'
+both 'calendar rule\nrates table 2026-12-28 10\nrate 2026-12-30 10 1\n'
+both 'calendar rule\nrates table 2026-12-28 10\narbitrate\n'
+both 'calendar rule\nrates table 2026-12-28 10\narbitrate 2026-12-30\n'
+both 'calendar rule\nrates table 2026-12-28 10\narbitrate 2026-12-30 10 # a note\n'
+both 'calendar rule\nrates table 2026-12-28 10\nrate x y\n'
+both 'calendar rule\nrates table 2026-12-28 10\nrate 2027-02-29 10\n'
+both 'calendar rule\nrates table 2026-12-28 10\narbitrate x y\n'
+both 'calendar rule\nrates table 2026-12-28 10\narbitrate 2027-1-1 10\n'
+both 'calendar rule\nrates table 2026-12-28 10\nrate 2026-12-30 y\n'
+both 'calendar rule\nrates table 2026-12-28 10\nrate 2026-12-30 10%%\n'
+both 'calendar rule\nrates table 2026-12-28 10\nrate 2026-12-30 10.\n'
+both 'calendar rule\nrates table 2026-12-28 10\nrate 2026-12-30 .5\n'
+both 'calendar rule\nrates table 2026-12-28 10\nrate 2026-12-30 10.1234567\n'
+both 'calendar rule\nrates table 2026-12-28 10\nrate 2026-12-30 4294.967296\n'
+both 'calendar rule\nrates table 2026-12-28 10\nrate 2026-12-30 4294.967295\n'
+both 'calendar rule\nrates table 2026-12-28 10\narbitrate 2026-12-30 -1\n'
+both 'calendar rule\nrates table 2026-12-28 10\narbitrate 2026-12-30 10,5\n'
+both 'calendar rule\nrates table 2026-12-28 10\narbitrate 2026-12-30 4295\n'
+both 'calendar rule\nRates table 2026-12-28 10\n'
+both 'calendar rule\nrates table 2026-12-28 10\nRate 2026-12-30 10\n'
+both 'calendar rule\nrates table 2026-12-28 10\narbitrates 2026-12-30 10\n'
+both 'calendar rule\nrates table 2026-12-28 10\npublish 2026-12-30 10\n'
+echo 'a bad line after a bad line'
+both 'calendar rule\nrates table 2026-12-28 10\nrate 2026-12-30 x\nnothing\n'
+both 'calendar rule\nnothing\nrate 2026-12-30 x\n'
+both 'calendar rule\nrates table 2026-12-28 10\ncalendar\nrates\n'
+both 'calendar rule\nrates table 2026-12-28 10\nexception 2027-01-01 open\nrates\n'
+both 'calendar marked missing.bin\nrates\n'
+both 'calendar marked every-day.bin\nrates table 2026-12-28 10\nexception 2027-01-01 closed\n'
+
+part 'rates: refusals'
+both "${turn}rate 2026-12-27 10\n"
+both "${turn}rate 2026-12-28 10\n"
+both "${turn}rate 2027-01-06 10\n"
+both "${turn}rate 2027-01-07 10\n"
+both "${turn}arbitrate 2026-12-27 10\n"
+both "${turn}arbitrate 2026-12-28 10\n"
+both "${turn}arbitrate 2027-01-06 10\n"
+both "${turn}arbitrate 2027-01-07 10\n"
+both "${turn}rate 2000-01-01 10\n"
+both "${turn}arbitrate 2099-12-31 10\n"
+both 'calendar rule\nrates table 2026-12-30 0\nrate 2026-12-30 10\n'
+both 'calendar rule\nrates table 2026-12-30 0\narbitrate 2026-12-30 10\n'
+both 'calendar rule\nrates table 2026-12-30 1\nrate 2026-12-30 10\n'
+both 'calendar rule\nrates table 2026-12-30 1\nrate 2026-12-31 10\n'
+both 'calendar rule\nrates table 2026-12-30 1\narbitrate 2026-12-29 10\n'
+both 'calendar rule\nrates table 2000-01-01 36525\nrate 2000-01-01 10\narbitrate 2099-12-31 10\n'
+both 'calendar rule\nrates table 2000-01-01 36524\nrate 2000-01-01 10\narbitrate 2099-12-31 10\n'
+both 'calendar rule\nrates table 2099-12-31 36525\nrate 2099-12-31 10\n'
+both 'calendar rule\nrates table 2099-12-31 36525\nrate 2099-12-30 10\n'
+echo 'a day that has a rate, published or arbitrated'
+both "${turn}rate 2026-12-30 10\nrate 2026-12-30 10\n"
+both "${turn}rate 2026-12-30 10\nrate 2026-12-30 11\n"
+both "${turn}rate 2026-12-30 10\narbitrate 2026-12-30 10\n"
+both "${turn}arbitrate 2026-12-30 10\nrate 2026-12-30 10\n"
+both "${turn}arbitrate 2026-12-30 10\narbitrate 2026-12-30 11\n"
+both "${turn}rate 2026-12-30 0\nrate 2026-12-30 10\n"
+both "${turn}arbitrate 2026-12-30 0\nrate 2026-12-30 10\n"
+both "${turn}rate 2026-12-30 0\narbitrate 2026-12-30 10\n"
+both "${turn}arbitrate 2026-12-30 0\narbitrate 2026-12-30 10\n"
+echo 'the limit of the rate'
+both "${turn}rate 2026-12-30 99.999999\n"
+both "${turn}rate 2026-12-30 100\n"
+both "${turn}rate 2026-12-30 100.000000\n"
+both "${turn}arbitrate 2026-12-30 99.999999\n"
+both "${turn}arbitrate 2026-12-30 100\n"
+both "${turn}arbitrate 2026-12-30 4294.967295\n"
+echo 'the order of the causes'
+both "${turn}rate 2026-12-27 100\n"
+both "${turn}arbitrate 2026-12-27 100\n"
+both "${turn}rate 2026-12-30 10\nrate 2026-12-30 100\n"
+both "${turn}rate 2026-12-30 10\narbitrate 2026-12-30 100\n"
+both "${turn}arbitrate 2026-12-30 10\nrate 2026-12-30 100\n"
+both "${turn}arbitrate 2026-12-30 10\narbitrate 2026-12-30 100\n"
+both "${turn}rate 2026-12-27 x\n"
+both "${turn}rate 2026-12-30 10\nrate 2026-12-30 x\n"
+echo 'days that are no reserve days have rates too'
+both "${turn}rate 2027-01-01 10\narbitrate 2027-01-02 10\n"
+
+part 'rates: 16 and 17 arbitrated days'
+printf 'calendar marked every-day.bin\nrates table 2026-12-01 20\n' >start.txt
+days arbitrate 9831 16 >sixteen.txt
+more() { # what follows the sixteen
+  printf '\n# after sixteen arbitrated days: %q' "$1"
+  { cat start.txt sixteen.txt; printf "$1"; } >office.txt
+  run correct office.txt 2026-12-01 2026-12-17 95000
+  run prices office.txt sheet.bin
+}
+more ''
+more 'arbitrate 2026-12-17 10\n'
+more 'arbitrate 2026-11-30 100\n'
+more 'arbitrate 2026-12-21 10\n'
+more 'arbitrate 2026-12-16 100\n'
+more 'arbitrate 2026-12-01 10\n'
+more 'arbitrate 2026-12-17 100\n'
+more 'arbitrate 2026-12-17 x\n'
+more 'rate 2026-12-16 10\n'
+more 'rate 2026-12-17 10\n'
+more 'rate 2026-12-17 10\narbitrate 2026-12-17 10\n'
+more 'rate 2026-12-17 10\narbitrate 2026-12-18 10\n'
+run correct office.txt 2026-12-01 2026-12-17 95000
+more 'rate 2026-12-17 10\nrate 2026-12-18 99.999999\nrate 2026-12-19 0\nrate 2026-12-20 0.000001\n'
+run correct office.txt 2026-12-01 2026-12-21 95000
+run correct office.txt 2026-12-01 2026-12-22 95000
+
+part 'rates: forms that are taken, and the order of the lines'
+correct 'calendar rule\r\nrates table 2026-12-28 0000000010\r\n\trate  2026-12-30\t0000000010.000000 \r\n# a note\r\n arbitrate 2026-12-31 9.5\r\nexception 2027-01-01 closed\r\nexception 2026-12-31 reserve' 2026-12-30 2027-01-04 99925.00
+correct 'calendar rule\nrates table 2026-12-28 10\narbitrate 2026-12-31 10.12\nexception 2027-01-01 closed\nrate 2026-12-30 10.123456\nexception 2027-01-01 session\n' 2026-12-30 2027-01-04 99925.00
+correct 'calendar rule\nexception 2027-01-01 closed\nrates table 2026-12-28 10\narbitrate 2026-12-30 10\nrate 2026-12-31 11.1\n' 2026-12-30 2027-01-04 99925.00
+
+part 'correct: messages and their order'
+run correct rule.txt x y z
+run correct rule.txt 2026-12-30 y z
+run correct rule.txt 2026-12-30 2026-12-29 z
+run correct rule.txt 2026-12-30 2026-12-29 0
+run correct rule.txt 2026-12-30 2026-12-29 1
+run correct rule.txt x 2026-12-29 0
+run correct bad.txt x y z
+run correct rule.txt 2027-02-29 2027-03-01 1
+run correct rule.txt 1999-12-31 2027-03-01 1
+run correct rule.txt 2027-02-28 2100-01-01 1
+run correct rule.txt 2027-02-28 2027-3-01 1
+run correct rule.txt '' '' ''
+run correct rule.txt 2026-12-30 '' ''
+run correct rule.txt 2026-12-30 2026-12-30 ''
+run correct rule.txt ' 2026-12-30' 2026-12-30 1
+run correct rule.txt 2027-12-30 2000-01-01 1
+run correct rule.txt 2000-01-01 2099-12-31 100000.01
+run correct rule.txt 2099-12-31 2000-01-01 100000.01
+run correct rule.txt 2000-01-01 2099-12-31 100000
+run correct rule.txt 2026-12-30 2027-01-04 1
+
+part 'correct: forms and limits of the price'
+printf "$example" >example.txt
+for price in 0 0.0 0.00 000 0.01 0.1 0.10 0.02 1 999.99 1000 1000.5 99925 99925.0 99925.00 \
+  0000000099925.00 99999.99 100000 100000.0 100000.00 100000.01 100000.1 100001 \
+  42949672.95 42949672.96 42949673 4294967295 4294967295.99 4294967296 \
+  99925. .5 . 99925.000 99925.001 99,925 '99 925.00' 1.2.3 -1 +1 -0 1e5 ten 99925x ' 1' '1 ' '١' \
+  99999999999999999999999999; do
+  run correct example.txt 2026-12-30 2027-01-04 "$price"
+  run correct example.txt 2026-12-30 2026-12-30 "$price"
+done
+
+part 'correct: gaps without reserve days, and with one'
+run correct rule.txt 2026-12-30 2026-12-30 99925
+run correct example.txt 2026-12-30 2026-12-30 99925
+run correct example.txt 2000-01-01 2000-01-01 0.01
+run correct example.txt 2099-12-31 2099-12-31 100000
+run correct rule.txt 2027-01-02 2027-01-04 99925
+run correct example.txt 2027-01-01 2027-01-04 99925
+run correct example.txt 2027-01-01 2027-01-05 99925
+run correct example.txt 2026-12-30 2026-12-31 99925
+run correct example.txt 2026-12-31 2027-01-01 99925
+run correct example.txt 2026-12-31 2027-01-04 99925
+run correct example.txt 2026-12-31 2027-01-02 99925
+run correct example.txt 2026-12-30 2026-12-29 99925
+
+part 'correct: a missing rate'
+run correct example.txt 2026-12-29 2027-01-04 99925
+run correct example.txt 2026-12-30 2027-01-05 99925
+run correct example.txt 2026-12-24 2027-01-15 99925
+correct "${turn}rate 2026-12-29 10\nrate 2026-12-31 10\n" 2026-12-29 2027-01-04 99925
+correct "${turn}rate 2026-12-29 10\nrate 2026-12-30 10\n" 2026-12-29 2027-01-04 99925
+correct "${turn}rate 2026-12-30 10\nrate 2027-01-01 10\n" 2026-12-30 2027-01-04 99925
+correct "${turn}" 2026-12-30 2027-01-04 99925
+correct 'calendar rule\nrates table 2026-12-30 0\n' 2026-12-30 2027-01-04 99925
+correct 'calendar rule\nrates table 2026-12-30 0\n' 2026-12-30 2026-12-30 99925
+echo 'a rate on a day that is no reserve day is not asked for'
+correct "${turn}rate 2026-12-30 10\nrate 2026-12-31 11\nrate 2027-01-01 99\narbitrate 2027-01-02 98\n" 2026-12-30 2027-01-04 99925
+echo 'a reserve day without session in the middle, at the start and at the end'
+correct "${turn}rate 2026-12-29 9\nrate 2026-12-30 10\nrate 2026-12-31 11\nrate 2027-01-04 12\n" 2026-12-29 2027-01-05 99925
+run correct office.txt 2026-12-31 2027-01-05 99925
+run correct office.txt 2026-12-29 2027-01-01 99925
+echo 'rates of nothing and of the most'
+correct "${turn}rate 2026-12-30 0\narbitrate 2026-12-31 99.999999\n" 2026-12-30 2027-01-04 100000
+correct "${turn}arbitrate 2026-12-30 99.999999\nrate 2026-12-31 0\n" 2026-12-30 2027-01-04 100000
+correct "${turn}rate 2026-12-30 0.000001\narbitrate 2026-12-31 0\n" 2026-12-30 2027-01-04 0.01
+
+part 'correct: a half of a centavo exactly, and just under and over one'
+# The factors are 1.00050000, 1.00049999 and 1.00050001.
+for rate in 13.424633 13.424346 13.424918; do
+  correct "${turn}rate 2026-12-30 $rate\n" 2026-12-30 2026-12-31 10
+  run correct office.txt 2026-12-30 2026-12-31 30
+  run correct office.txt 2026-12-30 2026-12-31 99990
+done
+
+part 'correct: the ends of the horizon'
+printf 'calendar marked every-day.bin\nrates table 2026-12-28 4\n' >ends.txt
+days rate 9858 4 >>ends.txt
+run correct ends.txt 2026-12-28 2027-01-01 99925
+run correct ends.txt 2026-12-27 2027-01-01 99925
+run correct ends.txt 2026-12-28 2027-01-02 99925
+run correct ends.txt 2026-12-31 2027-01-01 99925
+run correct ends.txt 2026-12-27 2026-12-28 99925
+run correct ends.txt 2027-01-01 2027-01-02 99925
+printf 'calendar marked every-day.bin\nrates table 2000-01-01 36525\nrate 2000-01-01 10\nrate 2099-12-30 11\narbitrate 2099-12-31 12\n' >whole.txt
+run correct whole.txt 2000-01-01 2000-01-02 99925
+run correct whole.txt 2000-01-01 2000-01-03 99925
+run correct whole.txt 2099-12-30 2099-12-31 99925
+run correct whole.txt 2099-12-29 2099-12-31 99925
+
+part 'correct: 252 and 253 reserve days'
+for rate in '' 0 0.000001 14.9 99.999999; do
+  printf 'calendar marked every-day.bin\nrates table 2026-01-01 254\n' >long.txt
+  days rate 9497 254 $rate >>long.txt
+  for price in 0.01 0.5 91234.56 100000; do
+    run correct long.txt 2026-01-01 2026-09-10 $price
+  done
+  run correct long.txt 2026-01-01 2026-09-11 91234.56
+  run correct long.txt 2026-01-02 2026-09-11 91234.56
+done
+echo 'too many days, and a rate is missing too'
+sed -i '/2026-03-01/d' long.txt
+run correct long.txt 2026-01-01 2026-09-11 91234.56
+run correct long.txt 2026-01-01 2026-09-10 91234.56
+run correct every-day.txt 2026-01-01 2026-09-11 91234.56
+run correct every-day.txt 2026-01-01 2026-09-10 91234.56
+echo 'the closed days do not count'
+printf 'calendar rule\nrates table 2026-01-01 400\n' >weeks.txt
+days rate 9497 400 >>weeks.txt
+for to in 2026-12-17 2026-12-18 2026-12-19 2026-12-20 2026-12-21 2026-12-22 2026-12-23; do
+  run correct weeks.txt 2026-01-01 $to 91234.56
+done
+
+part 'correct: a marked calendar'
+# From 2026-12-30: session, reserve, closed, other bytes, reserve, session on 2027-01-05.
+printf 'calendar marked marked.bin\nrates table 2026-12-30 7\nrate 2026-12-30 10\narbitrate 2026-12-31 11\nrate 2027-01-04 12\nrate 2027-01-05 13\n' >office.txt
+run correct office.txt 2026-12-30 2027-01-05 99925
+run correct office.txt 2026-12-30 2027-01-04 99925
+run correct office.txt 2026-12-30 2027-01-06 99925
+run correct office.txt 2026-12-30 2027-12-31 99925
+run correct office.txt 2027-01-01 2027-01-04 99925
+correct 'calendar marked empty.bin\n' 2000-01-01 2099-12-31 99925
+
+part 'correct: FROM is no session, TO is no session'
+run correct example.txt 2026-12-31 2027-01-04 99925
+run correct example.txt 2027-01-01 2027-01-04 99925
+run correct example.txt 2026-12-30 2027-01-01 99925
+run correct example.txt 2026-12-30 2027-01-03 99925
+
+part 'correct: a file of another folder is named as it is given'
+run correct ./bad.txt 2026-12-30 2027-01-04 99925
+printf 'calendar rule\nrate\n' >a-folder/office.txt
+run correct a-folder/office.txt x y z
+run correct ./a-folder/../example.txt 2026-12-30 2027-01-04 99925
+
+part 'prices: an office file with rates'
+whole two.txt example.txt
+{ cat example-office.txt; printf 'rates table 2026-12-01 60\nrate 2026-12-30 10\narbitrate 2027-01-04 11\n'; } >rates-office.txt
+whole sheet.txt rates-office.txt
+{ cat every-day.txt; printf 'rates table 2026-12-01 60\nrate 2026-12-30 10\n'; } >rates-marked.txt
+priced sheet.txt rates-marked.txt
+
+part 'correct: many rates'
+printf 'calendar rule\nexception 2026-12-25 closed\nexception 2026-12-31 reserve\nexception 2027-01-01 closed\nrates table 2026-12-01 60\n' >many-rates.txt
+days rate 9831 20 >>many-rates.txt
+days arbitrate 9851 16 >>many-rates.txt
+days rate 9867 24 >>many-rates.txt
+for price in 0.01 1.23 97.66 9876.54 54321.09 98765.43 99999.99; do
+  for to in 2026-12-02 2026-12-08 2026-12-28 2027-01-04 2027-01-30; do
+    run correct many-rates.txt 2026-12-01 $to $price
+  done
+done

@@ -858,10 +858,74 @@ fn powers() -> ExitCode {
     ExitCode::SUCCESS
 }
 
+/// One entry a day of a table of rates.
+struct TableSource {
+    first: u32,
+    entries: Vec<u32>,
+}
+
+impl TableSource {
+    fn holds(&self, day: u32) -> bool {
+        let count = self.entries.len().min(u32::MAX as usize) as u32;
+        self.first <= day && day - self.first < count
+    }
+
+    fn rate(&self, day: u32) -> Option<u32> {
+        if !self.holds(day) {
+            return None;
+        }
+        let entry = self.entries[(day - self.first) as usize];
+        if entry == 0 || entry - 1 > 99_999_999 {
+            None
+        } else {
+            Some(entry - 1)
+        }
+    }
+}
+
+fn correct_day(price: u64, factor: u32) -> Option<u64> {
+    let sum = price.checked_mul(factor as u64)?.checked_add(50_000_000)?;
+    Some(sum / 100_000_000)
+}
+
+fn correct<C: Calendar>(calendar: &C, source: &TableSource, from: u32, to: u32, price: u32) -> Option<u64> {
+    if count_reserve_days(calendar, from, to) > 252 {
+        return None;
+    }
+    let end = to.min(LAST_DAY + 1);
+    let mut corrected = price as u64;
+    for day in from..end {
+        if calendar.kind(day).is_reserve() {
+            corrected = correct_day(corrected, day_factor(source.rate(day)?)?)?;
+        }
+    }
+    Some(corrected)
+}
+
+fn corrections(count: u32) -> u64 {
+    let mut numbers = Numbers::new();
+    let calendar = RuleCalendar::new(&[]);
+    let mut entries = Vec::new();
+    for _ in 0..2_000 {
+        entries.push(1 + numbers.below(30_000_000));
+    }
+    let source = TableSource { first: 9_000, entries };
+    let mut sum: u64 = 0;
+    for _ in 0..count {
+        let from = 9_000 + numbers.below(1_995);
+        let price = 1 + numbers.below(10_000_000);
+        if let Some(corrected) = correct(&calendar, &source, from, from + 5, price) {
+            sum = sum.wrapping_add(corrected);
+        }
+    }
+    sum
+}
+
 fn answer(command: &str, count: u32) -> Option<String> {
     match command {
         "prices" => Some(format!("{count} prices, sum {}", prices(count))),
         "factors" => Some(format!("{count} factors, sum {}", factors(count))),
+        "corrections" => Some(format!("{count} corrections, sum {}", corrections(count))),
         "sheets" => {
             let Total { lines, priced, sum } = sheets(count);
             Some(format!(
@@ -888,7 +952,7 @@ fn main() -> ExitCode {
             ExitCode::SUCCESS
         }
         None => {
-            eprintln!("plain: a command is prices N, factors N, sheets N or powers");
+            eprintln!("plain: a command is prices N, factors N, corrections N, sheets N or powers");
             ExitCode::FAILURE
         }
     }

@@ -1,23 +1,29 @@
-// Prices, day factors and trade sheets in bulk, over numbers that every run repeats.
+// Prices, day factors, corrections and trade sheets in bulk, over numbers that every run repeats.
+mod figures;
+mod gaps;
 mod numbers;
-mod rates;
 mod sheets;
 
-use rates::factors;
-use rates::prices;
+use figures::factors;
+use figures::prices;
+use gaps::corrections;
 use sheets::TotalDisplay;
 use sheets::sheets;
 use std::alloc::Global;
 use std::env;
 use std::error::AnyError;
 
-const HELP: &str = "a command is prices N, factors N or sheets N";
+const HELP: &str = "a command is prices N, factors N, corrections N or sheets N";
 
 // What a command prints.
 fn answer(heap: Global, command: &str, count: u32) -> Result<String, AnyError> {
     match command {
         "prices" => Ok(format!(heap, "{count} prices, sum {}", prices(count))?),
         "factors" => Ok(format!(heap, "{count} factors, sum {}", factors(count))?),
+        "corrections" => {
+            let sum = corrections(heap, count)?;
+            Ok(format!(heap, "{count} corrections, sum {sum}")?)
+        }
         "sheets" => {
             let total = sheets(heap, count)?;
             Ok(format!(heap, "{count} sheets, {total}")?)

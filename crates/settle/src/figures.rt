@@ -7,12 +7,13 @@ use interest::trade_price;
 use std::alloc::Global;
 use std::fmt;
 
-// Decimals after the point of a dealt rate, a DI rate and a day factor.
+// Decimals after the point of a dealt rate, a price, a DI rate and a day factor.
 pub(crate) const RATE_PLACES: usize = 3;
 
-const DI_PLACES: usize = 6;
+pub(crate) const PRICE_PLACES: usize = 2;
+pub(crate) const DI_PLACES: usize = 6;
 
-const FACTOR_PLACES: usize = 8;
+pub(crate) const FACTOR_PLACES: usize = 8;
 
 const TENS: [u32; 9] = [
     1,
@@ -46,7 +47,7 @@ pub impl fmt::Display for Fixed as FixedDisplay {
 // A price in hundredths of a point, with a space before the last three digits of the points.
 #[derive(Clone, Copy)]
 pub(crate) struct Points {
-    pub(crate) hundredths: u32,
+    pub(crate) hundredths: u64,
 }
 
 pub impl fmt::Display for Points as PointsDisplay {
@@ -96,7 +97,7 @@ pub(crate) fn price(heap: Global, rate: &str, days: &str) -> Result<String, Fail
     };
     match trade_price(dealt, count) {
         Ok(hundredths) => {
-            let price = Points { hundredths };
+            let price = Points { hundredths: hundredths as u64 };
             Ok(format!(heap, "{price}\n")?)
         }
         Err(Unpriceable::RateTooHigh) => Err(Failure::said(heap, "rate over 99.999 %")?),

@@ -1,4 +1,5 @@
 // The program of a clearing broker's staff: prices trade sheets, and makes and shows them.
+mod corrections;
 mod failure;
 mod figures;
 mod office;
@@ -17,13 +18,13 @@ use std::alloc::Global;
 use std::env;
 use std::error::AnyError;
 
-const HELP: &str =
-    "settle prices OFFICE SHEET       prices every line of a sheet on the office's calendar
-settle sheet show FILE           prints a sheet as text
-settle sheet make TEXTFILE FILE  writes the sheet that a text describes
-settle price RATE DAYS           the price of a dealt rate over a number of reserve days
-settle factor RATE               the day factor of a DI rate
-settle help                      this list
+const HELP: &str = "settle prices OFFICE SHEET           prices every line of a sheet on the office's calendar
+settle correct OFFICE FROM TO PRICE  carries a settlement price over the reserve days of a gap
+settle sheet show FILE               prints a sheet as text
+settle sheet make TEXTFILE FILE      writes the sheet that a text describes
+settle price RATE DAYS               the price of a dealt rate over a number of reserve days
+settle factor RATE                   the day factor of a DI rate
+settle help                          this list
 ";
 
 // The words after the program's name.
@@ -39,6 +40,7 @@ fn words(rt: &LibcRuntime) -> Result<Vec<String>, Failure> {
 fn answer(rt: &LibcRuntime, words: &[&str]) -> Result<String, Failure> {
     match words {
         ["prices", office, sheet] => report::prices(rt, office, sheet),
+        ["correct", office, from, to, price] => corrections::correct_gap(rt, office, from, to, price),
         ["sheet", "show", file] => sheets::show(rt, file),
         ["sheet", "make", text, file] => sheets::make(rt, text, file),
         ["price", rate, days] => figures::price(rt.alloc(), rate, days),

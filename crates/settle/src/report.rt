@@ -59,9 +59,7 @@ fn price_words<C: Calendar>(
                 let price = format!(
                     heap,
                     "{}",
-                    Points {
-                        hundredths: priced.price
-                    }
+                    Points { hundredths: priced.price as u64 }
                 )?;
                 format!(heap, "{price:>10}")?
             }
@@ -217,10 +215,10 @@ fn priced<C: Calendar>(
 // Prices every line of a sheet on the office's calendar.
 pub(crate) fn prices(rt: &LibcRuntime, office: &str, file: &str) -> Result<String, Failure> {
     let heap = rt.alloc();
-    let calendar = read_office(rt, office)?;
+    let office = read_office(rt, office)?;
     let bytes = read_bytes(rt, file)?;
     let view = view(heap, file, bytes.as_slice())?;
-    match &calendar {
+    match &office.calendar {
         OfficeCalendar::Marked(marked) => priced(heap, marked, file, &view),
         OfficeCalendar::Rule(rule) => priced(heap, rule, file, &view),
     }
