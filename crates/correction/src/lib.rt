@@ -47,7 +47,13 @@ fn day_on<S: RateSource>(source: &S, day: u32, price: u64) -> Result<u64, Uncorr
 }
 
 // The price after the reserve days of a short gap, one by one.
-fn carry<C: Calendar, S: RateSource>(calendar: &C, source: &S, from: u32, to: u32, price: u32) -> Result<u64, Uncorrected>
+fn carry<C: Calendar, S: RateSource>(
+    calendar: &C,
+    source: &S,
+    from: u32,
+    to: u32,
+    price: u32,
+) -> Result<u64, Uncorrected>
     requires { ⌜ Short (kinds (now calendar)) from to ⌝ }
     ensures { λ r. ⌜ Answer (kinds (now (calendar .entry))) (rates (now (source .entry))) from to price r ⌝ }
 {
@@ -63,7 +69,13 @@ fn carry<C: Calendar, S: RateSource>(calendar: &C, source: &S, from: u32, to: u3
 
 // The price of a session, corrected over the reserve days from it, included, to a later day,
 // excluded.
-pub fn correct<C: Calendar, S: RateSource>(calendar: &C, source: &S, from: u32, to: u32, price: u32) -> Result<u64, Uncorrected>
+pub fn correct<C: Calendar, S: RateSource>(
+    calendar: &C,
+    source: &S,
+    from: u32,
+    to: u32,
+    price: u32,
+) -> Result<u64, Uncorrected>
     ensures { λ r. ⌜ Answer (kinds (now (calendar .entry))) (rates (now (source .entry))) from to price r ⌝ }
 {
     if count_reserve_days(calendar, from, to) > MOST_DAYS {
@@ -71,3 +83,6 @@ pub fn correct<C: Calendar, S: RateSource>(calendar: &C, source: &S, from: u32, 
     }
     carry(calendar, source, from, to, price)
 }
+
+#[cfg(test)]
+mod tests;

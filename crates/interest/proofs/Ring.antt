@@ -7,8 +7,15 @@ use borrow.Author.Differences.{up, down, same-in, sum-is, neg-is, product-is, sa
 
 pub dist-l : (a b c : ℤ) → a *ℤ (b +ℤ c) ≡ a *ℤ b +ℤ a *ℤ c
 dist-l a b c = same-in (a *ℤ (b +ℤ c)) (a *ℤ b +ℤ a *ℤ c)
-    (omega (arith, sum-is (a *ℤ b) (a *ℤ c), product-is a (b +ℤ c), product-is a b, product-is a c,
-        ap (λ n. up a * n) (sum-is b c), ap (λ n. down a * n) (sum-is b c)))
+    (omega (
+      arith,
+      sum-is (a *ℤ b) (a *ℤ c),
+      product-is a (b +ℤ c),
+      product-is a b,
+      product-is a c,
+      ap (λ n. up a * n) (sum-is b c),
+      ap (λ n. down a * n) (sum-is b c),
+    ))
 
 pub mul-assoc : (a b c : ℤ) → (a *ℤ b) *ℤ c ≡ a *ℤ (b *ℤ c)
 mul-assoc a b c = same-in ((a *ℤ b) *ℤ c) (a *ℤ (b *ℤ c))
@@ -38,4 +45,5 @@ abs-mul (negsuc a) (negsuc b) = refl
 
 -- multiplies out and sorts: each monomial is then one atom for `omega (arith, sums)`
 pub ruleset expands = (dist-l, dist-r, neg-mul-l, neg-mul-r, mul-assoc, *ℤ-comm, mul-left-comm)
+
 pub ruleset sums = (same-out, same-in, sum-is, neg-is)

@@ -18,4 +18,4 @@ drift (g ∷ gs) = 100000000 * (product gs + drift gs)
 -- over any days, twice the distance of the corrected price from the exact one is at most the drift
 abbrev pub Rounded : Type 0
 Rounded = (price : ℕ) (gs : List ℕ)
-  → 2 * natAbs (pos (price * product gs) -ℤ pos (corrected price gs * 100000000 ^ length gs)) ≤ drift gs
+    → 2 * natAbs (pos (price * product gs) -ℤ pos (corrected price gs * 100000000 ^ length gs)) ≤ drift gs

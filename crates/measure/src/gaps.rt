@@ -10,6 +10,7 @@ use std::alloc::Global;
 
 // The first day of the table of rates, and how many days it has.
 const FIRST: u32 = 9_000;
+
 const DAYS: u32 = 2_000;
 
 // A rate for every day of the table.

@@ -15,6 +15,9 @@ use Rattle.calendar.specs.declared.kind.DayKind.{DayKind}
 use Rattle.calendar.specs.Spans.{expiryOf, reserveDays}
 use Rattle.interest.specs.Price.{tradePrice}
 use Rattle.interest.specs.Tick.{onTick}
+use Rattle.refusal.specs.declared.Refusal.{Refusal}
+use Rattle.refusal.specs.declared.Refusal.the-variants as refusals
+use Rattle.refusal.specs.declared.Refusal.the-variants.{NoExpiry, BadRate}
 use Rattle.sheet.specs.declared.trade.Trade.{Trade}
 use Rattle.pricing.specs.declared.trades.Cause.{Cause}
 use Rattle.pricing.specs.declared.trades.Cause.the-variants.{NoSession, Expired, RateTooHigh, OffTick, TooFar}
@@ -76,10 +79,10 @@ Answer kinds session trade r =
     Cases r (λ p. (unpriced kinds session trade ≡ None) × (p ≡ inPrice kinds session trade))
     (λ c. unpriced kinds session trade ≡ Some c)
 
--- the number of each cause
-abbrev pub causeNumber : Cause → ℕ
-causeNumber NoSession = 20
-causeNumber Expired = 3
-causeNumber RateTooHigh = 6
-causeNumber OffTick = 6
-causeNumber TooFar = 7
+-- the refusal that each cause is
+abbrev pub causeRefusal : Cause → Refusal
+causeRefusal NoSession = NoExpiry
+causeRefusal Expired = refusals.Expired
+causeRefusal RateTooHigh = BadRate
+causeRefusal OffTick = BadRate
+causeRefusal TooFar = refusals.TooFar

@@ -1,6 +1,6 @@
 // The price of a trade on a calendar, or why it has none.
 ghost use mathlib.Core.Path.{_≡_};
-ghost use Rattle.pricing.specs.Pricing.{Answer, causeNumber};
+ghost use Rattle.pricing.specs.Pricing.{Answer, causeRefusal};
 use calendar::kind::Calendar;
 use calendar::span::count_reserve_days;
 use calendar::span::expiry;
@@ -8,6 +8,7 @@ use dates::month_of;
 use interest::Unpriceable;
 use interest::on_tick;
 use interest::trade_price;
+use refusal::Refusal;
 use sheet::Trade;
 
 // The greatest dealt rate, in thousandths of a percent.
@@ -34,15 +35,15 @@ pub enum Cause {
 }
 
 impl Cause {
-    // The number of the refusal.
-    pub fn number(self) -> u32
-        ensures { λ r. ⌜ r ≡ causeNumber self ⌝ }
+    // The refusal that the cause is.
+    pub fn refusal(self) -> Refusal
+        ensures { λ r. ⌜ r ≡ causeRefusal self ⌝ }
     {
         match self {
-            Cause::NoSession => 20,
-            Cause::Expired => 3,
-            Cause::RateTooHigh | Cause::OffTick => 6,
-            Cause::TooFar => 7,
+            Cause::NoSession => Refusal::NoExpiry,
+            Cause::Expired => Refusal::Expired,
+            Cause::RateTooHigh | Cause::OffTick => Refusal::BadRate,
+            Cause::TooFar => Refusal::TooFar,
         }
     }
 }

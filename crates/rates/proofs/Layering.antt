@@ -1,6 +1,6 @@
 -- Laws of a layer.
 use mathlib.Core.Path.{_≡_}
-use mathlib.Core.Bool.{Bool, true, false, cond, Bool-set}
+use mathlib.Core.Bool.{true, false, Bool-set}
 use mathlib.Core.List.{List, [], _∷_, _++_}
 use Prim.Native.Nat.{ℕ, _≤_}
 use native.Mathlib.Omega.{arith}
@@ -9,14 +9,13 @@ use Rattle.std.proofs.shelf.Ways.{tells}
 use Rattle.std.specs.declared.option.Option.{Option}
 use Rattle.std.specs.declared.option.Option.the-variants.{Some, None}
 use Rattle.std.specs.Of.Vec.{vec-items, vec-len, vec-cap}
-use Rattle.std.specs.Options.{isSome}
 use Rattle.refusal.specs.Refusals.{firstRow}
 use Rattle.rates.specs.declared.horizon.Horizon.{Horizon}
 use Rattle.rates.specs.declared.layer.Arbitrated.{Arbitrated}
 use Rattle.rates.specs.declared.layer.DayRate.{DayRate}
 use Rattle.rates.specs.Horizons.{inside}
-use Rattle.rates.specs.Listed.{listed, withinLimit}
-use Rattle.rates.specs.Layers.{orElse, layered}
+use Rattle.rates.specs.Listed.{withinLimit}
+use Rattle.rates.specs.Layers.{layered}
 use Rattle.rates.specs.Publishing.{dayRows, publishRows, Sets}
 use Rattle.rates.proofs.Listing.{listed-more, listed-bounded}
 

@@ -60,7 +60,11 @@ fn gap_of(heap: Global, from: &str, to: &str, price: &str) -> Result<Gap, Failur
     if to < from {
         return Err(Failure::said(heap, "TO is before FROM")?);
     }
-    Ok(Gap { from, to, price: hundredths })
+    Ok(Gap {
+        from,
+        to,
+        price: hundredths,
+    })
 }
 
 fn price_words(heap: Global, hundredths: u64) -> Result<String, Failure> {
@@ -68,7 +72,12 @@ fn price_words(heap: Global, hundredths: u64) -> Result<String, Failure> {
 }
 
 // The corrected price, or why there is none.
-fn corrected<C: Calendar>(heap: Global, calendar: &C, rates: &OfficeRates, gap: Gap) -> Result<u64, Failure> {
+fn corrected<C: Calendar>(
+    heap: Global,
+    calendar: &C,
+    rates: &OfficeRates,
+    gap: Gap,
+) -> Result<u64, Failure> {
     match correct(calendar, rates, gap.from, gap.to, gap.price) {
         Ok(price) => Ok(price),
         Err(Uncorrected::TooLong) => Err(Failure::said(heap, "over 252 reserve days")?),
@@ -87,22 +96,46 @@ fn factor_on(rates: &OfficeRates, day: u32) -> Option<u32> {
 // The row of a reserve day, with the price after it.
 fn row(heap: Global, rates: &OfficeRates, day: u32, price: u64) -> Result<String, Failure> {
     let date = day_words(heap, day)?;
-    let rate = Fixed { value: rates.rate(day).unwrap_or(0), places: DI_PLACES };
+    let rate = Fixed {
+        value: rates.rate(day).unwrap_or(0),
+        places: DI_PLACES,
+    };
     let rate = format!(heap, "{rate}")?;
-    let source = if rates.is_arbitrated(day) { "arbitrated" } else { "published" };
-    let factor = Fixed { value: factor_on(rates, day).unwrap_or(0), places: FACTOR_PLACES };
+    let source = if rates.is_arbitrated(day) {
+        "arbitrated"
+    } else {
+        "published"
+    };
+    let factor = Fixed {
+        value: factor_on(rates, day).unwrap_or(0),
+        places: FACTOR_PLACES,
+    };
     let factor = format!(heap, "{factor}")?;
     let price = price_words(heap, price)?;
-    Ok(format!(heap, "{date:<11}  {rate:>9}  {source:<10}  {factor:>10}  {price:>10}\n")?)
+    Ok(
+        format!(
+            heap,
+            "{date:<11}  {rate:>9}  {source:<10}  {factor:>10}  {price:>10}\n"
+        )?,
+    )
 }
 
 // The rows of a gap that can be corrected, and the factor of its last reserve day.
-fn rows<C: Calendar>(heap: Global, calendar: &C, rates: &OfficeRates, gap: Gap) -> Result<(String, Option<u32>), Failure> {
+fn rows<C: Calendar>(
+    heap: Global,
+    calendar: &C,
+    rates: &OfficeRates,
+    gap: Gap,
+) -> Result<(String, Option<u32>), Failure> {
     let mut text = String::new(heap);
     let mut last = None;
     for day in gap.from..gap.to {
         if calendar.kind(day).is_reserve() {
-            let so_far = Gap { from: gap.from, to: day + 1, price: gap.price };
+            let so_far = Gap {
+                from: gap.from,
+                to: day + 1,
+                price: gap.price,
+            };
             let price = corrected(heap, calendar, rates, so_far)?;
             text.push_str(row(heap, rates, day, price)?.as_str())?;
             last = factor_on(rates, day);
@@ -126,21 +159,36 @@ fn last_alone(heap: Global, price: u32, last: Option<u32>) -> Result<String, Fai
 }
 
 // The whole print of a correction.
-fn print<C: Calendar>(heap: Global, calendar: &C, rates: &OfficeRates, gap: Gap) -> Result<String, Failure> {
+fn print<C: Calendar>(
+    heap: Global,
+    calendar: &C,
+    rates: &OfficeRates,
+    gap: Gap,
+) -> Result<String, Failure> {
     let price = price_words(heap, corrected(heap, calendar, rates, gap)?)?;
     let start = price_words(heap, gap.price as u64)?;
     let from = day_words(heap, gap.from)?;
     let to = day_words(heap, gap.to)?;
     let (rows, last) = rows(heap, calendar, rates, gap)?;
     let days = count_reserve_days(calendar, gap.from, gap.to);
-    let what = if days == 1 { "reserve day" } else { "reserve days" };
+    let what = if days == 1 {
+        "reserve day"
+    } else {
+        "reserve days"
+    };
     let alone = last_alone(heap, gap.price, last)?;
     let head = format!(heap, "from {from} at {start}\n{HEADING}{rows}")?;
     Ok(format!(heap, "{head}to {to}: {price} over {days} {what}\n{alone}")?)
 }
 
 // Carries a settlement price over a gap by the office's calendar and rates.
-pub(crate) fn correct_gap(rt: &LibcRuntime, office: &str, from: &str, to: &str, price: &str) -> Result<String, Failure> {
+pub(crate) fn correct_gap(
+    rt: &LibcRuntime,
+    office: &str,
+    from: &str,
+    to: &str,
+    price: &str,
+) -> Result<String, Failure> {
     let heap = rt.alloc();
     let office = read_office(rt, office)?;
     let gap = gap_of(heap, from, to, price)?;

@@ -11,6 +11,7 @@ use std::fmt;
 pub(crate) const RATE_PLACES: usize = 3;
 
 pub(crate) const PRICE_PLACES: usize = 2;
+
 pub(crate) const DI_PLACES: usize = 6;
 
 pub(crate) const FACTOR_PLACES: usize = 8;
@@ -97,7 +98,9 @@ pub(crate) fn price(heap: Global, rate: &str, days: &str) -> Result<String, Fail
     };
     match trade_price(dealt, count) {
         Ok(hundredths) => {
-            let price = Points { hundredths: hundredths as u64 };
+            let price = Points {
+                hundredths: hundredths as u64,
+            };
             Ok(format!(heap, "{price}\n")?)
         }
         Err(Unpriceable::RateTooHigh) => Err(Failure::said(heap, "rate over 99.999 %")?),

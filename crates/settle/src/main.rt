@@ -18,7 +18,8 @@ use std::alloc::Global;
 use std::env;
 use std::error::AnyError;
 
-const HELP: &str = "settle prices OFFICE SHEET           prices every line of a sheet on the office's calendar
+const HELP: &str =
+    "settle prices OFFICE SHEET           prices every line of a sheet on the office's calendar
 settle correct OFFICE FROM TO PRICE  carries a settlement price over the reserve days of a gap
 settle sheet show FILE               prints a sheet as text
 settle sheet make TEXTFILE FILE      writes the sheet that a text describes
@@ -40,7 +41,13 @@ fn words(rt: &LibcRuntime) -> Result<Vec<String>, Failure> {
 fn answer(rt: &LibcRuntime, words: &[&str]) -> Result<String, Failure> {
     match words {
         ["prices", office, sheet] => report::prices(rt, office, sheet),
-        ["correct", office, from, to, price] => corrections::correct_gap(rt, office, from, to, price),
+        ["correct", office, from, to, price] => corrections::correct_gap(
+            rt,
+            office,
+            from,
+            to,
+            price,
+        ),
         ["sheet", "show", file] => sheets::show(rt, file),
         ["sheet", "make", text, file] => sheets::make(rt, text, file),
         ["price", rate, days] => figures::price(rt.alloc(), rate, days),

@@ -132,11 +132,19 @@ fn day_rate(heap: Global, file: &str, line: &Line, expected: &str) -> Result<Day
     let Some(rate) = parse_fixed(percent, DI_PLACES) else {
         return Err(no_such(heap, file, line.number, "no rate", percent));
     };
-    Ok(DayRate { day: day.day_number(), rate })
+    Ok(DayRate {
+        day: day.day_number(),
+        rate,
+    })
 }
 
 // What the source answered.
-fn taken(heap: Global, file: &str, line: usize, answer: Result<(), Refusal>) -> Result<(), Failure> {
+fn taken(
+    heap: Global,
+    file: &str,
+    line: usize,
+    answer: Result<(), Refusal>,
+) -> Result<(), Failure> {
     let Err(refusal) = answer else {
         return Ok(());
     };
@@ -145,7 +153,12 @@ fn taken(heap: Global, file: &str, line: usize, answer: Result<(), Refusal>) -> 
     Err(at_line(heap, file, line, words))
 }
 
-fn publish_line(heap: Global, file: &str, line: &Line, rates: &mut Option<OfficeRates>) -> Result<(), Failure> {
+fn publish_line(
+    heap: Global,
+    file: &str,
+    line: &Line,
+    rates: &mut Option<OfficeRates>,
+) -> Result<(), Failure> {
     let Some(source) = rates else {
         return Err(bad_line(heap, file, line.number, "no rates line before"));
     };
@@ -153,7 +166,12 @@ fn publish_line(heap: Global, file: &str, line: &Line, rates: &mut Option<Office
     taken(heap, file, line.number, source.publish(day, rate, 1))
 }
 
-fn arbitrate_line(heap: Global, file: &str, line: &Line, rates: &mut Option<OfficeRates>) -> Result<(), Failure> {
+fn arbitrate_line(
+    heap: Global,
+    file: &str,
+    line: &Line,
+    rates: &mut Option<OfficeRates>,
+) -> Result<(), Failure> {
     let Some(source) = rates else {
         return Err(bad_line(heap, file, line.number, "no rates line before"));
     };
@@ -164,7 +182,12 @@ fn arbitrate_line(heap: Global, file: &str, line: &Line, rates: &mut Option<Offi
 impl Draft {
     fn take_exception(&mut self, heap: Global, file: &str, line: &Line) -> Result<(), Failure> {
         if !self.takes_exceptions {
-            return Err(bad_line(heap, file, line.number, "a marked calendar takes no exception"));
+            return Err(bad_line(
+                heap,
+                file,
+                line.number,
+                "a marked calendar takes no exception",
+            ));
         }
         self.exceptions.push(exception(heap, file, line)?)?;
         Ok(())
@@ -193,8 +216,17 @@ impl Draft {
 }
 
 // What the lines after the calendar line say.
-fn drafted(heap: Global, file: &str, lines: &[Line], takes_exceptions: bool) -> Result<Draft, Failure> {
-    let mut draft = Draft { takes_exceptions, exceptions: Vec::new(heap), rates: None };
+fn drafted(
+    heap: Global,
+    file: &str,
+    lines: &[Line],
+    takes_exceptions: bool,
+) -> Result<Draft, Failure> {
+    let mut draft = Draft {
+        takes_exceptions,
+        exceptions: Vec::new(heap),
+        rates: None,
+    };
     for line in lines.iter() {
         draft.take_line(heap, file, line)?;
     }
@@ -202,7 +234,11 @@ fn drafted(heap: Global, file: &str, lines: &[Line], takes_exceptions: bool) -> 
 }
 
 // The office without a rates line has no rates.
-fn office_of(heap: Global, calendar: OfficeCalendar, rates: Option<OfficeRates>) -> Result<Office, Failure> {
+fn office_of(
+    heap: Global,
+    calendar: OfficeCalendar,
+    rates: Option<OfficeRates>,
+) -> Result<Office, Failure> {
     match rates {
         Some(rates) => Ok(Office { calendar, rates }),
         None => {
@@ -222,16 +258,33 @@ pub(crate) fn read_office(rt: &LibcRuntime, file: &str) -> Result<Office, Failur
     };
     match first.words.as_slice() {
         ["calendar", "rule"] => {
-            let Draft { takes_exceptions: _, exceptions, rates } = drafted(heap, file, rest, true)?;
+            let Draft {
+                takes_exceptions: _,
+                exceptions,
+                rates,
+            } = drafted(heap, file, rest, true)?;
             let calendar = RuleCalendar::new(heap, exceptions.as_slice())?;
             office_of(heap, OfficeCalendar::Rule(calendar), rates)
         }
         ["calendar", "marked", path] => {
             let bytes = marks(rt, file, first.number, path)?;
-            let Draft { takes_exceptions: _, exceptions: _, rates } = drafted(heap, file, rest, false)?;
-            office_of(heap, OfficeCalendar::Marked(MarkedCalendar::new(bytes)), rates)
+            let Draft {
+                takes_exceptions: _,
+                exceptions: _,
+                rates,
+            } = drafted(heap, file, rest, false)?;
+            office_of(
+                heap,
+                OfficeCalendar::Marked(MarkedCalendar::new(bytes)),
+                rates,
+            )
         }
-        ["calendar", ..] => Err(bad_line(heap, file, first.number, "expected: calendar rule, or calendar marked FILE")),
+        ["calendar", ..] => Err(bad_line(
+            heap,
+            file,
+            first.number,
+            "expected: calendar rule, or calendar marked FILE",
+        )),
         _ => Err(bad_line(heap, file, first.number, "no calendar line")),
     }
 }

@@ -59,7 +59,9 @@ fn price_words<C: Calendar>(
                 let price = format!(
                     heap,
                     "{}",
-                    Points { hundredths: priced.price as u64 }
+                    Points {
+                        hundredths: priced.price as u64
+                    }
                 )?;
                 format!(heap, "{price:>10}")?
             }

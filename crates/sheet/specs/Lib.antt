@@ -1,3 +1,4 @@
 pub mod Codes
 pub mod Sheet
 pub mod Views
+pub mod Refusals

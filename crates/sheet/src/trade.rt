@@ -1,6 +1,8 @@
 // The lines of a trade sheet, and why one is refused.
 ghost use mathlib.Core.Path.{_≡_};
+ghost use Rattle.sheet.specs.Refusals.{faultRefusal, writeRefusal};
 ghost use Rattle.sheet.specs.Sheet.{faultLine};
+use refusal::Refusal;
 
 // The most trades of a sheet.
 pub const MOST_TRADES: u16 = 256;
@@ -34,6 +36,13 @@ impl SheetFault {
             SheetFault::Length | SheetFault::Count | SheetFault::Day => 0,
         }
     }
+
+    // Every fault of a sheet is one refusal.
+    pub fn refusal(self) -> Refusal
+        ensures { λ r. ⌜ r ≡ faultRefusal self ⌝ }
+    {
+        Refusal::BadSheet
+    }
 }
 
 // Why a sheet is not written: the array is short, or the trades make no sheet.
@@ -41,4 +50,15 @@ impl SheetFault {
 pub enum WriteFault {
     Short,
     BadSheet,
+}
+
+impl WriteFault {
+    pub fn refusal(self) -> Refusal
+        ensures { λ r. ⌜ r ≡ writeRefusal self ⌝ }
+    {
+        match self {
+            WriteFault::Short => Refusal::ArrayShort,
+            WriteFault::BadSheet => Refusal::BadSheet,
+        }
+    }
 }

@@ -14,7 +14,8 @@ pub returns : need.returns
 returns g c =
     let has = c .in-Some .ensures tt in
     let f = c .in-Some-day-factor .ensures tt in
-    let v = c .in-Some-correct-day .ensures tt .value in
-    (sym (ap isSome has),
-     v .1 ∙ ap (correctedDay (c .args .price)) (f .value ∙ ap (λ r. dayFactor (valueOr r 0)) has),
-     omega (arith, v .1, day-adds (c .args .price) (c .in-Some-day-factor .factor) (c .pre) (f .most)))
+    let v = c .in-Some-correct-day .ensures tt .value in (
+      sym (ap isSome has),
+      v .1 ∙ ap (correctedDay (c .args .price)) (f .value ∙ ap (λ r. dayFactor (valueOr r 0)) has),
+      omega (arith, v .1, day-adds (c .args .price) (c .in-Some-day-factor .factor) (c .pre) (f .most)),
+    )

@@ -47,6 +47,7 @@ impl<S: RateSource> Arbitrated<S> {
         }
     }
 
+    // The source below.
     pub fn below(&self) -> &S
         ensures { λ r. ⌜ now r ≡ now (self .entry) .below ⌝ }
     {
