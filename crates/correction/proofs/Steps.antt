@@ -18,13 +18,8 @@ use Rattle.calendar.specs.Spans.{reserveDays, firstOf, daysBy}
 use Rattle.calendar.proofs.Spans.{days-none, days-more, days-split, days-head, days-end, past-last}
 use Rattle.interest.specs.Correction.{corrected, correctedDay}
 use Rattle.interest.proofs.Carried.{corrected-none, corrected-more}
+use Rattle.correction.specs.Carrying.{Carried}
 use Rattle.correction.specs.Gaps.{factorOn, factors, isUnrated, firstUnrated, correctedPrice}
-
--- what is known on the way: the price so far, that each reserve day so far has a rate, and how great the price can be
-pub record Carried (kinds : ℕ → DayKind) (rates : ℕ → Option ℕ) (from day price now : ℕ) : Type 0 where
-  pub value : now ≡ correctedPrice kinds rates from day price
-  pub rated : kept-by (isUnrated rates) (reserveDays kinds from day) ≡ []
-  pub most : now ≤ price + 280000000 * length (reserveDays kinds from day)
 
 pub carried-none : (kinds : ℕ → DayKind) (rates : ℕ → Option ℕ) (from price : ℕ) → Carried kinds rates from from price price
 carried-none kinds rates from price =
@@ -92,17 +87,15 @@ small kinds ends rates from to end day price now e few h l fits c =
     let m = c .most in
     omega arith
 
--- a reserve day without a rate is the first such of the gap
-pub missing : (kinds : ℕ → DayKind) → ((d : ℕ) → 36524 < d → kinds d ≡ Closed) → (rates : ℕ → Option ℕ) (from to end day price now : ℕ) → end ≡ min to 36525
-    → from ≤ day → day < end → isReserve (kinds day) ≡ true → rates day ≡ None
-    → Carried kinds rates from day price now → firstUnrated rates (reserveDays kinds from to) ≡ Some day
-missing kinds ends rates from to end day price now e h l a-day none c =
-    ap (firstUnrated rates) (whole kinds ends from to end e)
-    ∙ ap (firstUnrated rates) (days-split isReserve kinds from day end h (omega arith))
-    ∙ ap firstOf (kept-by-append (isUnrated rates) (reserveDays kinds from day) (reserveDays kinds day end)
-    ∙ ap (λ xs. xs ++ kept-by (isUnrated rates) (reserveDays kinds day end)) (c .rated)
-    ∙ ap (kept-by (isUnrated rates)) (days-head isReserve kinds day end l ∙ ap (λ b. cond b (day ∷ reserveDays kinds (day + 1) end) (reserveDays kinds (day + 1) end)) a-day)
-    ∙ ap (λ b. cond b (day ∷ kept-by (isUnrated rates) (reserveDays kinds (day + 1) end)) (kept-by (isUnrated rates) (reserveDays kinds (day + 1) end))) (ap (λ r. not (isSome r)) none))
+-- a reserve day without a rate is the first such of every gap that holds it
+pub missing : (kinds : ℕ → DayKind) (rates : ℕ → Option ℕ) (from day price now : ℕ) → from ≤ day → isReserve (kinds day) ≡ true → rates day ≡ None
+    → Carried kinds rates from day price now → (to : ℕ) → day < to → firstUnrated rates (reserveDays kinds from to) ≡ Some day
+missing kinds rates from day price now h a-day none c to l =
+    ap (firstUnrated rates) (days-split isReserve kinds from day to h (omega arith))
+    ∙ ap firstOf (kept-by-append (isUnrated rates) (reserveDays kinds from day) (reserveDays kinds day to)
+    ∙ ap (λ xs. xs ++ kept-by (isUnrated rates) (reserveDays kinds day to)) (c .rated)
+    ∙ ap (kept-by (isUnrated rates)) (days-head isReserve kinds day to l ∙ ap (λ b. cond b (day ∷ reserveDays kinds (day + 1) to) (reserveDays kinds (day + 1) to)) a-day)
+    ∙ ap (λ b. cond b (day ∷ kept-by (isUnrated rates) (reserveDays kinds (day + 1) to)) (kept-by (isUnrated rates) (reserveDays kinds (day + 1) to))) (ap (λ r. not (isSome r)) none))
 
 -- the whole gap is carried
 pub arrived : (kinds : ℕ → DayKind) → ((d : ℕ) → 36524 < d → kinds d ≡ Closed) → (rates : ℕ → Option ℕ) (from to end day price now : ℕ) → end ≡ min to 36525

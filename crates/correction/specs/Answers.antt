@@ -1,6 +1,6 @@
 -- What a correction answers.
 use mathlib.Core.Path.{_≡_}
-use Prim.Native.Nat.{ℕ, _≤_, _<_}
+use Prim.Native.Nat.{ℕ, _+_, _≤_, _<_}
 use lib.ListN.{length}
 use Rattle.std.specs.Results.{Cases}
 use Rattle.std.specs.declared.option.Option.{Option}
@@ -10,6 +10,7 @@ use Rattle.calendar.specs.declared.kind.DayKind.{DayKind}
 use Rattle.calendar.specs.Spans.{reserveDays}
 use Rattle.correction.specs.declared.Uncorrected.{Uncorrected}
 use Rattle.correction.specs.declared.Uncorrected.the-variants.{TooLong, MissingRate}
+use Rattle.correction.specs.Carrying.{Carried}
 use Rattle.correction.specs.Gaps.{firstUnrated, correctedPrice}
 
 -- a year of reserve days at most
@@ -27,3 +28,9 @@ Answer kinds rates from to price r =
     Cases r
     (λ p. Short kinds from to × (firstUnrated rates (reserveDays kinds from to) ≡ None) × (p ≡ correctedPrice kinds rates from to price))
     (λ e. Refused kinds rates from to e)
+
+-- one day on: the price carried over that day too; else that day is the first without a rate, in every gap from there that holds it
+abbrev pub DayOn : (ℕ → DayKind) → (ℕ → Option ℕ) → ℕ → ℕ → ℕ → ℕ → Result ℕ Uncorrected → Type 0
+DayOn kinds rates from day price now r =
+    Cases r (λ next. Carried kinds rates from (day + 1) price next)
+    (λ e. (e ≡ MissingRate day) × ((to : ℕ) → day < to → firstUnrated rates (reserveDays kinds from to) ≡ Some day))

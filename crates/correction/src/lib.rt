@@ -8,7 +8,8 @@ ghost use Rattle.std.specs.Results.{Cases};
 ghost use Rattle.std.specs.declared.option.Option.the-variants.{None};
 ghost use Rattle.interest.specs.Correction.{correctedDay};
 ghost use Rattle.correction.specs.Gaps.{factorOn};
-ghost use Rattle.correction.specs.Answers.{Short, Answer};
+ghost use Rattle.correction.specs.Answers.{Short, Answer, DayOn};
+ghost use Rattle.correction.specs.Carrying.{Carried};
 ghost use Rattle.correction.specs.declared.Uncorrected.the-variants.{MissingRate};
 use calendar::kind::Calendar;
 use calendar::span::count_reserve_days;
@@ -28,7 +29,7 @@ pub enum Uncorrected {
 }
 
 // The price after a reserve day, by the day's own rate.
-fn day_on<S: RateSource>(source: &S, day: u32, price: u64) -> Result<u64, Uncorrected>
+fn by_rate<S: RateSource>(source: &S, day: u32, price: u64) -> Result<u64, Uncorrected>
     requires { ⌜ price ≤ 90000000000 ⌝ }
     ensures { λ r. ⌜ Cases r
         (λ p. (isSome (rates (now (source .entry)) day) ≡ true) × (p ≡ correctedDay price (factorOn (rates (now (source .entry))) day)) × (p ≤ price + 280000000))
@@ -46,6 +47,22 @@ fn day_on<S: RateSource>(source: &S, day: u32, price: u64) -> Result<u64, Uncorr
     Ok(next)
 }
 
+// A price that was carried to a day, carried over that day too: by its rate if it is a reserve day.
+fn day_on<C: Calendar, S: RateSource>(
+    calendar: &C,
+    source: &S,
+    day: u32,
+    carried: u64,
+) -> Result<u64, Uncorrected>
+    requires { ⌜ carried ≤ 90000000000 ⌝ }
+    ensures { λ r. ⌜ ((from price : ℕ) → from ≤ day → Carried (kinds (now (calendar .entry))) (rates (now (source .entry))) from day price carried → DayOn (kinds (now (calendar .entry))) (rates (now (source .entry))) from day price carried r) ⌝ }
+{
+    if !calendar.kind(day).is_reserve() {
+        return Ok(carried);
+    }
+    by_rate(source, day, carried)
+}
+
 // The price after the reserve days of a short gap, one by one.
 fn carry<C: Calendar, S: RateSource>(
     calendar: &C,
@@ -58,13 +75,14 @@ fn carry<C: Calendar, S: RateSource>(
     ensures { λ r. ⌜ Answer (kinds (now (calendar .entry))) (rates (now (source .entry))) from to price r ⌝ }
 {
     let end = to.min(LAST_DAY + 1);
-    let mut corrected = price as u64;
+    let mut carried = price as u64;
     for day in from..end {
-        if calendar.kind(day).is_reserve() {
-            corrected = day_on(source, day, corrected)?;
+        match day_on(calendar, source, day, carried) {
+            Ok(next) => carried = next,
+            Err(missing) => return Err(missing),
         }
     }
-    Ok(corrected)
+    Ok(carried)
 }
 
 // The price of a session, corrected over the reserve days from it, included, to a later day,

@@ -4,7 +4,7 @@ use interest::day_factor;
 use interest::trade_price;
 
 // The sum of so many prices.
-pub fn prices(count: u32) -> u64 {
+pub(crate) fn prices(count: u32) -> u64 {
     let mut numbers = Numbers::new();
     let mut sum: u64 = 0;
     for _ in 0..count {
@@ -18,7 +18,7 @@ pub fn prices(count: u32) -> u64 {
 }
 
 // The sum of so many day factors.
-pub fn factors(count: u32) -> u64 {
+pub(crate) fn factors(count: u32) -> u64 {
     let mut numbers = Numbers::new();
     let mut sum: u64 = 0;
     for _ in 0..count {

@@ -23,7 +23,7 @@ fn table(heap: Global, numbers: &mut Numbers) -> Result<TableSource, AllocError>
 }
 
 // The sum of so many corrected prices.
-pub fn corrections(heap: Global, count: u32) -> Result<u64, AllocError> {
+pub(crate) fn corrections(heap: Global, count: u32) -> Result<u64, AllocError> {
     let mut numbers = Numbers::new();
     let calendar = RuleCalendar::new(heap, &[])?;
     let source = table(heap, &mut numbers)?;

@@ -3,7 +3,7 @@ ghost use Prim.Native.Nat.{_<_};
 use sheet::Trade;
 
 #[derive(Drop)]
-pub struct Numbers {
+pub(crate) struct Numbers {
     state: u32,
 }
 

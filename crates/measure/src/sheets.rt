@@ -99,7 +99,7 @@ fn next_sheet(
 }
 
 // The total of so many sheets.
-pub fn sheets(heap: Global, count: u32) -> Result<Total, AllocError> {
+pub(crate) fn sheets(heap: Global, count: u32) -> Result<Total, AllocError> {
     let calendar = RuleCalendar::new(
         heap,
         &[Exception {

@@ -1,21 +1,16 @@
 use mathlib.Core.Path.{_≡_, sym, ap, _∙_}
-use native.Mathlib.Omega.{arith}
-use Rattle.std.specs.Options.{isSome, valueOr}
-use Rattle.interest.specs.Correction.{correctedDay}
-use Rattle.interest.specs.Price.{dayFactor}
-use Rattle.interest.proofs.Carried.{day-adds}
+use Rattle.std.proofs.shelf.Results.{cases-weaker}
+use Rattle.calendar.specs.Kinds.{isReserve}
+use Rattle.correction.proofs.Steps.{carried-skip, carried-more, missing}
 use Rattle.correction.proofs.day_on.Needs as need
 
-pub unreachable-requires : need.unreachable-requires
-unreachable-requires g c κs =
-    omega (arith, g .S·RateSource·met .bounded (c .args .source .now) (c .args .day) (c .in-Some .rate) (sym (c .in-Some .ensures tt)), c .in-rest-day-factor .ensures tt)
+pub returns-then-not-is-reserve : need.returns-then-not-is-reserve
+returns-then-not-is-reserve g c from price h carried =
+    carried-skip _ _ from _ price _ h (ap isReserve (sym (c .kind .ensures)) ∙ sym (c .if-not-is-reserve .ensures tt)) carried
 
 pub returns : need.returns
-returns g c =
-    let has = c .in-Some .ensures tt in
-    let f = c .in-Some-day-factor .ensures tt in
-    let v = c .in-Some-correct-day .ensures tt .value in (
-      sym (ap isSome has),
-      v .1 ∙ ap (correctedDay (c .args .price)) (f .value ∙ ap (λ r. dayFactor (valueOr r 0)) has),
-      omega (arith, v .1, day-adds (c .args .price) (c .in-Some-day-factor .factor) (c .pre) (f .most)),
-    )
+returns g c from price h carried =
+    let is = ap isReserve (sym (c .kind .ensures)) ∙ sym (c .if-not-is-reserve .ensures tt) in
+    cases-weaker (c .by-rate .result) (c .by-rate .ensures)
+    (λ next p. carried-more _ _ from _ price _ next h is (p .0) (p .1) (p .2) carried)
+    (λ e p. (p .0, missing _ _ from _ price _ h is (p .1) carried))
