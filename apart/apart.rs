@@ -932,6 +932,9 @@ settle help                          this list
 
 /// What the command prints, or the message after `settle: `.
 fn run(arguments: &[OsString]) -> Result<String, String> {
+    if arguments.iter().any(|argument| argument.to_str().is_none()) {
+        return Err("a word of the command is not UTF-8".to_string());
+    }
     let texts: Vec<String> = arguments.iter().map(|a| a.to_string_lossy().into_owned()).collect();
     let words: Vec<&str> = texts.iter().map(String::as_str).collect();
     match words[..] {

@@ -123,7 +123,7 @@ part 'the main example'
 whole sheet.txt example-office.txt
 bytes first.bin
 
-part 'the print of PROGRAM.md'
+part 'the example print'
 printf 'session 2026-12-30\ntrade 0 1 DI1F27 10.000 10\ntrade 2 3 DI1Z26 10.000 5\n' >two.txt
 whole two.txt example-office.txt
 bytes first.bin
@@ -185,7 +185,7 @@ run sheet make sheet.txt no-folder/made.bin
 run sheet make sheet.txt a-folder
 
 # ------------------------------------------------------------------
-part 'price: the figures of RULES.md'
+part 'price: the figures in the tables'
 run price 10 252
 run price 10 504
 run price 0 2520
@@ -237,7 +237,7 @@ run price 10 ten
 run price ten ten
 run price 10 '١'
 
-part 'factor: the figures of RULES.md'
+part 'factor: the figures in the tables'
 run factor 0
 run factor 10
 run factor 21
@@ -514,6 +514,10 @@ for seed in 1 2 3 4; do
 done
 
 # ------------------------------------------------------------------
+part 'words that are not UTF-8'
+run $'\xff'
+run price $'1\xe9' 5
+
 part 'forms at the edges'
 echo 'the words of the help'
 run help
@@ -567,12 +571,12 @@ run sheet make same same
 bytes same
 
 # ------------------------------------------------------------------
-part 'correct: the print of PROGRAM.md'
+part 'correct: the example print'
 turn='calendar rule\nexception 2027-01-01 closed\nexception 2026-12-31 reserve\nrates table 2026-12-28 10\n'
 example="${turn}rate 2026-12-30 10\narbitrate 2026-12-31 10\n"
 correct "$example" 2026-12-30 2027-01-04 99925.00
 
-part 'correct: the figures of RULES.md'
+part 'correct: the figures in the tables'
 printf 'calendar marked every-day.bin\nrates table 2026-12-01 31\n' >ten.txt
 days rate 9831 31 10 >>ten.txt
 run correct ten.txt 2026-12-01 2026-12-02 90909.09

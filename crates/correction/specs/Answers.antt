@@ -8,6 +8,8 @@ use Rattle.std.specs.declared.option.Option.the-variants.{Some, None}
 use Rattle.std.specs.declared.result.Result.{Result}
 use Rattle.calendar.specs.declared.kind.DayKind.{DayKind}
 use Rattle.calendar.specs.Spans.{reserveDays}
+use Rattle.refusal.specs.declared.Refusal.{Refusal}
+use Rattle.refusal.specs.declared.Refusal.the-variants as refusals
 use Rattle.correction.specs.declared.Uncorrected.{Uncorrected}
 use Rattle.correction.specs.declared.Uncorrected.the-variants.{TooLong, MissingRate}
 use Rattle.correction.specs.Carrying.{Carried}
@@ -21,6 +23,11 @@ Short kinds from to = length (reserveDays kinds from to) ≤ 252
 abbrev pub Refused : (ℕ → DayKind) → (ℕ → Option ℕ) → ℕ → ℕ → Uncorrected → Type 0
 Refused kinds rates from to TooLong = 252 < length (reserveDays kinds from to)
 Refused kinds rates from to (MissingRate day) = Short kinds from to × (firstUnrated rates (reserveDays kinds from to) ≡ Some day)
+
+-- the refusal that a cause is
+abbrev pub refusalOf : Uncorrected → Option Refusal
+refusalOf TooLong = None
+refusalOf (MissingRate day) = Some (refusals.MissingRate day)
 
 -- the corrected price where every reserve day of a short gap has a rate, else the first cause
 abbrev pub Answer : (ℕ → DayKind) → (ℕ → Option ℕ) → ℕ → ℕ → ℕ → Result ℕ Uncorrected → Type 0

@@ -8,7 +8,7 @@ ghost use Rattle.std.specs.Results.{Cases};
 ghost use Rattle.std.specs.declared.option.Option.the-variants.{None};
 ghost use Rattle.interest.specs.Correction.{correctedDay};
 ghost use Rattle.correction.specs.Gaps.{factorOn};
-ghost use Rattle.correction.specs.Answers.{Short, Answer, DayOn};
+ghost use Rattle.correction.specs.Answers.{Short, Answer, DayOn, refusalOf};
 ghost use Rattle.correction.specs.Carrying.{Carried};
 ghost use Rattle.correction.specs.declared.Uncorrected.the-variants.{MissingRate};
 use calendar::kind::Calendar;
@@ -17,6 +17,7 @@ use dates::LAST_DAY;
 use interest::correct_day;
 use interest::day_factor;
 use rates::source::RateSource;
+use refusal::Refusal;
 
 // The most reserve days of a gap: a year of them.
 pub const MOST_DAYS: u32 = 252;
@@ -26,6 +27,18 @@ pub const MOST_DAYS: u32 = 252;
 pub enum Uncorrected {
     TooLong,
     MissingRate(u32),
+}
+
+impl Uncorrected {
+    // The refusal of a day without a rate; a gap that is too long has none.
+    pub fn refusal(self) -> Option<Refusal>
+        ensures { λ r. ⌜ r ≡ refusalOf self ⌝ }
+    {
+        match self {
+            Uncorrected::TooLong => None,
+            Uncorrected::MissingRate(day) => Some(Refusal::MissingRate(day)),
+        }
+    }
 }
 
 // The price after a reserve day, by the day's own rate.

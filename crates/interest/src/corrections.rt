@@ -17,8 +17,9 @@ fn day_on(price: u64, factor: u32) -> Option<u64>
     Some(sum / 100_000_000)
 }
 
-// The price after one reserve day of a day factor, or nothing where the product does not fit. Over
-// any days it stays within half a centavo a day of the exact product, carried.
+// The price after one reserve day of a day factor, or nothing where the product does not fit. The
+// clause `rounded` is a law of the definition: over any days a corrected price is within half a
+// centavo for each reserve day of the exact product, each carried from the day after.
 pub fn correct_day(price: u64, factor: u32) -> Option<u64>
     ensures value { λ r. ⌜ Checked r (price * factor + 50000000 < 2 ^ 64) (correctedDay price factor) ⌝ }
     ensures rounded { λ _. ⌜ Rounded ⌝ }

@@ -22,6 +22,7 @@ use Rattle.sheet.specs.declared.trade.Trade.{Trade}
 use Rattle.pricing.specs.declared.trades.Cause.{Cause}
 use Rattle.pricing.specs.declared.trades.Cause.the-variants.{NoSession, Expired, RateTooHigh, OffTick, TooFar}
 use Rattle.pricing.specs.declared.trades.PricedTrade.{PricedTrade}
+use Rattle.pricing.specs.declared.trades.Sides.{Sides}
 
 -- the day on which a month expires, if it has a session
 abbrev pub expiryDay : (ℕ → DayKind) → ℕ → ℕ
@@ -63,11 +64,15 @@ unpriced kinds session trade = firstCause (rows kinds session trade)
 abbrev pub isPriced : (ℕ → DayKind) → ℕ → Trade → Bool
 isPriced kinds session trade = not (isSome (unpriced kinds session trade))
 
--- a trade in price: the buyer in rate sells, the seller in rate buys
+-- the sides in price: the buyer in rate sells, the seller in rate buys
+abbrev pub turned : Trade → Sides
+turned trade = record { buyer = trade .seller; seller = trade .buyer }
+
+-- a trade in price, with the sides turned
 abbrev pub inPrice : (ℕ → DayKind) → ℕ → Trade → PricedTrade
 inPrice kinds session trade = record {
-  buyer = trade .seller;
-  seller = trade .buyer;
+  buyer = turned trade .buyer;
+  seller = turned trade .seller;
   expiry = expiryDay kinds (trade .month);
   days = daysTo kinds session (trade .month);
   price = tradePrice (trade .rate) (daysTo kinds session (trade .month));

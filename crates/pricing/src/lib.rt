@@ -22,6 +22,11 @@ pub use trades::PricedTrade;
 pub use trades::PricedTradeDebug;
 pub use trades::PricedTradeEq;
 pub use trades::PricedTradePartialEq;
+pub use trades::Sides;
+pub use trades::SidesDebug;
+pub use trades::SidesEq;
+pub use trades::SidesPartialEq;
+pub use trades::in_price;
 pub use trades::price_trade;
 
 #[cfg(test)]

@@ -1,6 +1,6 @@
 // The price of a trade on a calendar, or why it has none.
 ghost use mathlib.Core.Path.{_≡_};
-ghost use Rattle.pricing.specs.Pricing.{Answer, causeRefusal};
+ghost use Rattle.pricing.specs.Pricing.{Answer, causeRefusal, turned};
 use calendar::kind::Calendar;
 use calendar::span::count_reserve_days;
 use calendar::span::expiry;
@@ -13,6 +13,23 @@ use sheet::Trade;
 
 // The greatest dealt rate, in thousandths of a percent.
 const MOST_RATE: u32 = 99_999;
+
+// Who buys and who sells in price.
+#[derive(Clone, Copy, PartialEq, Eq, Debug)]
+pub struct Sides {
+    pub buyer: u8,
+    pub seller: u8,
+}
+
+// The sides of a trade turned into price: a buyer in rate is a seller in price.
+pub fn in_price(trade: Trade) -> Sides
+    ensures { λ r. ⌜ r ≡ turned trade ⌝ }
+{
+    Sides {
+        buyer: trade.seller,
+        seller: trade.buyer,
+    }
+}
 
 // A trade in price: who buys, who sells, when it expires, after how many reserve days, at what price.
 #[derive(Clone, Copy, PartialEq, Eq, Debug)]
@@ -48,7 +65,7 @@ impl Cause {
     }
 }
 
-// Prices a trade of a session. A buyer in rate is a seller in price.
+// Prices a trade of a session.
 pub fn price_trade<C: Calendar>(
     calendar: &C,
     session: u32,
@@ -72,10 +89,11 @@ pub fn price_trade<C: Calendar>(
         return Err(Cause::OffTick);
     }
     let days = count_reserve_days(calendar, session, expiry);
+    let Sides { buyer, seller } = in_price(trade);
     match trade_price(trade.rate, days) {
         Ok(price) => Ok(PricedTrade {
-            buyer: trade.seller,
-            seller: trade.buyer,
+            buyer,
+            seller,
             expiry,
             days,
             price,

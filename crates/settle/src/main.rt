@@ -31,7 +31,10 @@ settle help                          this list
 // The words after the program's name.
 fn words(rt: &LibcRuntime) -> Result<Vec<String>, Failure> {
     let mut words = Vec::new(rt.alloc());
-    for word in env::args(rt)?.skip(1) {
+    let Ok(given) = env::args(rt) else {
+        return Err(Failure::said(rt.alloc(), "a word of the command is not UTF-8")?);
+    };
+    for word in given.skip(1) {
         words.push(word)?;
     }
     Ok(words)

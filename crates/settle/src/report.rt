@@ -27,6 +27,7 @@ use pricing::OnCalendar;
 use pricing::OnCalendarPick;
 use pricing::Tally;
 use pricing::add_up;
+use pricing::in_price;
 use pricing::price_trade;
 use sheet::SheetView;
 use sheet::Trade;
@@ -100,11 +101,19 @@ fn row<C: Calendar>(
     line: usize,
     trade: Trade,
 ) -> Result<String, Failure> {
-    let buyer = trade.buyer;
-    let seller = trade.seller;
+    let Trade {
+        buyer,
+        seller,
+        month: _,
+        rate: _,
+        quantity: _,
+    } = trade;
+    let turned = in_price(trade);
+    let buys = turned.buyer;
+    let sells = turned.seller;
     let sides = format!(
         heap,
-        "{line:>4}  {buyer:>10}  {seller:>11}  {seller:>8}  {buyer:>9}"
+        "{line:>4}  {buyer:>10}  {seller:>11}  {buys:>8}  {sells:>9}"
     )?;
     let code = code_words(heap, trade.month)?;
     let (date, days) = term_words(heap, calendar, session, trade.month)?;
