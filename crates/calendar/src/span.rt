@@ -14,7 +14,7 @@ pub const SESSION_REACH: u32 = 60;
 fn count_days<C: Calendar>(calendar: &C, from: u32, end: u32) -> u32
     requires forward { from ≤ end }
     requires within { end ≤ 36525 }
-    ensures value { (to : ℕ) → end ≡ min to 36525 → result ≡ length (reserve_days (kinds calendar.now) from to) }
+    ensures value { (to : ℕ) → end ≡ min to 36525 → result ≡ length (reserve_days (C.kinds calendar.now) from to) }
     ensures most { result ≤ 36525 }
 {
     let mut count = 0;
@@ -28,7 +28,7 @@ fn count_days<C: Calendar>(calendar: &C, from: u32, end: u32) -> u32
 
 // How many reserve days there are from `from`, included, to `to`, excluded.
 pub fn count_reserve_days<C: Calendar>(calendar: &C, from: u32, to: u32) -> u32
-    ensures value { result ≡ length (reserve_days (kinds calendar.now) from to) }
+    ensures value { result ≡ length (reserve_days (C.kinds calendar.now) from to) }
     ensures most { result ≤ 36525 }
 {
     let end = to.min(LAST_DAY + 1);
@@ -40,8 +40,8 @@ pub fn count_reserve_days<C: Calendar>(calendar: &C, from: u32, to: u32) -> u32
 
 // The first session day from `from`, included, to `to`, excluded.
 fn first_session<C: Calendar>(calendar: &C, from: u32, to: u32) -> Option<u32>
-    ensures value { result ≡ first_session (kinds calendar.now) from to }
-    ensures first { First (kinds calendar.now) from to result }
+    ensures value { result ≡ first_session (C.kinds calendar.now) from to }
+    ensures first { First (C.kinds calendar.now) from to result }
     ensures bound { IfSome result (λ d. d ≤ 36524) }
 {
     let end = to.min(LAST_DAY + 1);
@@ -55,8 +55,8 @@ fn first_session<C: Calendar>(calendar: &C, from: u32, to: u32) -> Option<u32>
 
 // The first session day of the 60 days from a day on.
 pub fn next_session<C: Calendar>(calendar: &C, from: u32) -> Option<u32>
-    ensures value { result ≡ first_session (kinds calendar.now) from (from + 60) }
-    ensures first { First (kinds calendar.now) from (from + 60) result }
+    ensures value { result ≡ first_session (C.kinds calendar.now) from (from + 60) }
+    ensures first { First (C.kinds calendar.now) from (from + 60) result }
     ensures bound { IfSome result (λ d. d ≤ 36524) }
 {
     if from > LAST_DAY {
@@ -76,8 +76,8 @@ fn month_range(month: u32) -> Option<(u32, u32)>
 
 // The expiry of a month: its first session day.
 pub fn expiry<C: Calendar>(calendar: &C, month: u32) -> Option<u32>
-    ensures value { result ≡ expiry_of (kinds calendar.now) month }
-    ensures first { month ≤ 1199 → First (kinds calendar.now) (first_day month) (first_day (month + 1)) result }
+    ensures value { result ≡ expiry_of (C.kinds calendar.now) month }
+    ensures first { month ≤ 1199 → First (C.kinds calendar.now) (first_day month) (first_day (month + 1)) result }
     ensures bound { IfSome result (λ d. d ≤ 36524) }
 {
     let (first, end) = month_range(month)?;

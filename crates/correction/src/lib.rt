@@ -1,5 +1,7 @@
 // A settlement price corrected over the reserve days of a gap, by any calendar and any source of
 // rates.
+#![tactic(auto)]
+
 ghost use Rattle.std.specs.Prelude.{◌≡◌, ℕ, ◌+◌, ◌≤◌, true, is_some, None, MatchResult};
 ghost use Rattle.interest.specs.Correction.{corrected_day};
 ghost use Rattle.correction.specs.Gaps.{factor_on};

@@ -1,4 +1,6 @@
 // Interest of the one-day rate: powers and roots of factors, day factors, trade prices, ticks and corrected prices.
+#![tactic(auto)]
+
 mod corrections;
 mod powers;
 mod prices;

@@ -1,4 +1,6 @@
 // Prices, day factors, corrections and trade sheets in bulk, over numbers that every run repeats.
+#![tactic(auto)]
+
 mod figures;
 mod gaps;
 mod numbers;

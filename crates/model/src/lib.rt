@@ -1,4 +1,6 @@
 // The model of a settlement book, and what is claimed of it.
+#![tactic(auto)]
+
 mod accounts;
 mod claims;
 mod closing;

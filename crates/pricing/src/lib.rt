@@ -1,4 +1,6 @@
 // Trades of a sheet priced on a calendar, with their sides turned into price, and added up.
+#![tactic(auto)]
+
 mod sums;
 mod trades;
 

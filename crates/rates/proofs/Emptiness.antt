@@ -8,9 +8,9 @@ zeros (suc n) zero = refl
 zeros (suc n) (suc i) = zeros n i
 
 -- a vector of n zeros, where n fits the count of a horizon
-pub no-rates : {E : Type 0} (P : Vec ℕ Global → Type 0) (r : Result (Vec ℕ Global) E) (n : ℕ) → n < 2 ^ 32
-    → IfOk r (λ v. P v × (vec_len v ≡ n)) → IfOk r (λ v. ((y : ℕ) → y ≡ 0 → y ≡ 0) → vec_items v ≡ replicate n 0)
+pub no-rates : {E : Type 0} (r : Result (Vec ℕ Global) E) (n : ℕ) → n < 2 ^ 32
+    → IfOk r (λ v. vec_len v ≡ n) → IfOk r (λ v. ((y : ℕ) → y ≡ 0 → y ≡ 0) → vec_items v ≡ replicate n 0)
     → IfOk r (λ v. (min (vec_len v) 4294967295 ≡ n) × ((k : ℕ) → get_or (vec_items v) k 0 ≡ 0))
-no-rates P (Ok v) n fits long exact =
-    (let e = long.1 in omega arith, λ k. ap (λ (xs : List ℕ). get_or xs k 0) (exact (λ y e. e)) ∙ zeros n k)
-no-rates P (Err e) n fits long exact = tt
+no-rates (Ok v) n fits long exact =
+    (omega arith, λ k. ap (λ (xs : List ℕ). get_or xs k 0) (exact (λ y e. e)) ∙ zeros n k)
+no-rates (Err e) n fits long exact = tt

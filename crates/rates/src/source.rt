@@ -36,7 +36,7 @@ pub trait Publishing: RateSource {
 
 // Whether a day may be given a rate.
 pub(crate) fn check_day<S: RateSource>(source: &S, day: u32) -> Result<(), Refusal>
-    ensures { result_err result ≡ day_refusal horizons rates source.now day }
+    ensures { result_err result ≡ day_refusal S.horizons S.rates source.now day }
 {
     if !source.horizon().holds(day) {
         return Err(Refusal::OutsideHorizon);

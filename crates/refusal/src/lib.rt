@@ -1,4 +1,6 @@
 // Why a call is refused: one cause for the whole project, with its number and a message.
+#![tactic(auto)]
+
 ghost use Rattle.std.specs.Prelude.{◌≡◌, Some};
 ghost use Rattle.refusal.specs.Refusals.{refusal_number, cause, value_of, message};
 

@@ -1,4 +1,6 @@
 // The program of a clearing broker's staff: prices trade sheets, and makes and shows them.
+#![tactic(auto)]
+
 mod corrections;
 mod failure;
 mod figures;

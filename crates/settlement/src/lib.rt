@@ -1,4 +1,6 @@
 // What the close of a session pays an account in a month, from its trades and its position.
+#![tactic(auto)]
+
 mod amounts;
 mod day;
 mod trades;

@@ -1,4 +1,6 @@
 // Contract codes, and the trade sheet read and written.
+#![tactic(auto)]
+
 mod code;
 mod letters;
 mod numbers;

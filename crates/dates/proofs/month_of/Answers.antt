@@ -5,7 +5,7 @@ use Rattle.dates.proofs.month_of.Goals as goal
 
 pub returns-then-start-day : goal.returns-then-start-day
 returns-then-start-day c =
-    let g = c.saturating-sub-guess.result / 1461 in
+    let g = c.saturating_sub-guess.result / 1461 in
     let i = guess-fits c.args.day g (omega arith) in
     let e : (g + 1) + 1 ≡ g + 2 = omega arith in
     let o : Holds (g + 1) c.args.day = (omega arith, rw e i.1) in
@@ -14,7 +14,7 @@ returns-then-start-day c =
 
 pub returns-else-start-day : goal.returns-else-start-day
 returns-else-start-day c =
-    let g = c.saturating-sub-guess.result / 1461 in
+    let g = c.saturating_sub-guess.result / 1461 in
     let i = guess-fits c.args.day g (omega arith) in
     let o : Holds g c.args.day = (i.0, omega arith) in
     let m = month-by c.args.day g (omega arith) o in

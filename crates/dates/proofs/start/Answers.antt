@@ -7,6 +7,6 @@ use Rattle.dates.proofs.start.Goals as goal
 pub returns : goal.returns
 returns c =
     let m = c.args.month in
-    let e : 365 * (m / 12) + (m / 12 + 3) / 4 + get_or before (m % 12) 0 + c.if-of-year-ge2.leap-day ≡ first_day m
+    let e : 365 * (m / 12) + (m / 12 + 3) / 4 + get_or before (m % 12) 0 + c.if-of_year-ge2.leap_day ≡ first_day m
     = rw first-day-is (grind (arith, nat_tests)) in
     record { value = e; bound = λ h. omega (arith, e, first-day-bound m h) }

@@ -4,14 +4,14 @@ use Rattle.calendar.specs.Spans.{first_session}
 use Rattle.calendar.proofs.Spans.{session-here, session-later, session-none, session-ends, is-first, first-bound}
 use Rattle.calendar.proofs.span.first_session.Goals as goal
 
-pub returns-then-is-session : goal.returns-then-is-session
-returns-then-is-session g c =
+pub returns-then-is_session : goal.returns-then-is_session
+returns-then-is_session g c =
     let k = g.C.Calendar.kinds c.args.calendar.now in
     let ends = g.met.C.Calendar.ends c.args.calendar.now in
     let day = c.loop-day.day in
     let e : Some day ≡ first_session k c.args.from c.args.to =
     sym (session-ends k ends _ _ _ c.min-end.ensures ∙ c.loop-day.invariant
-    ∙ session-here k _ _ c.loop-day-test.true (ap is_session (sym c.kind.ensures) ∙ sym c.if-is-session.ensures)) in
+    ∙ session-here k _ _ c.loop-day-test.true (ap is_session (sym c.kind.ensures) ∙ sym c.if-is_session.ensures)) in
     let f = is-first k c.args.from c.args.to (Some day) e in
     record { value = e; first = f; bound = first-bound k ends c.args.from c.args.to (Some day) f }
 

@@ -6,8 +6,8 @@ use Rattle.interest.proofs.powers.lessened.Goals as goal
 share : (part under : ℕ) → part ≤ under → part * 1000000000 / under ≤ 1000000000
 share part under h = div-le_of_le-mul under (omega arith)
 
-pub overflow-sub-result : goal.overflow-sub-result
-overflow-sub-result c = omega (arith, share c.args.part c.args.under c.requires.under.0)
+pub overflow_sub-result : goal.overflow_sub-result
+overflow_sub-result c = omega (arith, share c.args.part c.args.under c.requires.under.0)
 
 pub returns : goal.returns
 returns c =

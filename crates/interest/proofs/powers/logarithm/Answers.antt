@@ -10,8 +10,8 @@ quotient s a z h l k =
     let e : 2 * s ≤ 666666668 = omega arith in
     div-le_of_le-mul (a - z) (omega (arith, mul-le-mul_right a e))
 
-pub overflow-sub-c : goal.overflow-sub-c
-overflow-sub-c c = omega (arith, square c.args.s c.requires)
+pub overflow_sub-c : goal.overflow_sub-c
+overflow_sub-c c = omega (arith, square c.args.s c.requires)
 
 pub lessened-b-requires : goal.lessened-b-requires
 lessened-b-requires c = let h = square c.args.s c.requires in search rules
@@ -19,11 +19,11 @@ lessened-b-requires c = let h = square c.args.s c.requires in search rules
 pub lessened-a-requires : goal.lessened-a-requires
 lessened-a-requires c = let h = square c.args.s c.requires in search rules
 
-pub overflow-sub-result : goal.overflow-sub-result
-overflow-sub-result c = omega (arith, square c.args.s c.requires)
+pub overflow_sub-result : goal.overflow_sub-result
+overflow_sub-result c = omega (arith, square c.args.s c.requires)
 
-pub nonzero-div-result : goal.nonzero-div-result
-nonzero-div-result c = omega (arith, square c.args.s c.requires)
+pub nonzero_div-result : goal.nonzero_div-result
+nonzero_div-result c = omega (arith, square c.args.s c.requires)
 
 pub returns : goal.returns
 returns c = quotient c.args.s c.lessened-a.result _ c.requires c.lessened-a.ensures.least (square c.args.s c.requires)

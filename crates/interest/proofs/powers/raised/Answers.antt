@@ -3,8 +3,8 @@ use Rattle.interest.specs.Power.{power_of}
 use Rattle.interest.proofs.Growth.{power_zero, power-suc, power-least, power-most}
 use Rattle.interest.proofs.powers.raised.Goals as goal
 
-pub overflow-mul-reached : goal.overflow-mul-reached
-overflow-mul-reached c =
+pub overflow_mul-reached : goal.overflow_mul-reached
+overflow_mul-reached c =
     let m : c.loop-done.reached ≤ 3000000000
     = omega (arith, power-most c.args.factor c.loop-done.done c.requires.0 c.requires.1 (omega arith)) in
     record { fits = omega (arith, mul-le-mul m c.requires.1) }

@@ -3,8 +3,8 @@ use Rattle.interest.specs.Price.{after_days, trade_price}
 use Rattle.interest.proofs.Bounds.{share-most, trade-price-least, trade-price-most}
 use Rattle.interest.proofs.prices.price_within.Goals as goal
 
-pub overflow-mul-part : goal.overflow-mul-part
-overflow-mul-part c = record { fits = omega (arith, share-most c.raised.result c.raised.ensures.least) }
+pub overflow_mul-part : goal.overflow_mul-part
+overflow_mul-part c = record { fits = omega (arith, share-most c.raised.result c.raised.ensures.least) }
 
 pub discounted-requires : goal.discounted-requires
 discounted-requires c =
@@ -15,7 +15,7 @@ unfolding trade_price after_days
 returns c =
     let r = c.args.rate in
     let n = c.args.days in
-    let e : c.to-centavos.result ≡ trade_price r n = cc in
+    let e : c.to_centavos.result ≡ trade_price r n = cc in
     record {
       rate = c.requires.rate;
       days = c.requires.days;

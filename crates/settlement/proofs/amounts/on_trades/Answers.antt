@@ -4,13 +4,13 @@ use Rattle.settlement.proofs.Limits.{no_trade, read_small}
 use Rattle.settlement.proofs.Gains.{trades-more, trades-end}
 use Rattle.settlement.proofs.amounts.on_trades.Goals as goal
 
-pub on-trade-sum-requires : goal.on-trade-sum-requires
-on-trade-sum-requires c = read_small c.args.trades.now c.loop-trade.trade-index c.loop-trade-test.true c.requires
+pub on_trade-sum-requires : goal.on_trade-sum-requires
+on_trade-sum-requires c = read_small c.args.trades.now c.loop-trade.trade-index c.loop-trade-test.true c.requires
 
 pub loop-trade-preserved : goal.loop-trade-preserved
 loop-trade-preserved c =
     let m = trades-more c.args.account c.args.month c.args.price c.args.trades.now c.loop-trade.trade-index no_trade c.loop-trade-test.true in
-    let e = c.on-trade-sum.ensures.value in
+    let e = c.on_trade-sum.ensures.value in
     (omega (arith, ints), omega (arith, ints))
 
 pub returns : goal.returns

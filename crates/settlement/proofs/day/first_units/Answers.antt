@@ -8,8 +8,8 @@ use Rattle.settlement.proofs.day.first_units.Goals as goal
 cost : (n p : ℕ) → p < 2 ^ 32 → n * p ≤ n * 4294967296
 cost n p h = let k : p ≤ 4294967296 = omega arith in mul-le-mul_left n k
 
-pub overflow-add-sum : goal.overflow-add-sum
-overflow-add-sum c =
+pub overflow_add-sum : goal.overflow_add-sum
+overflow_add-sum c =
     let h = cost c.min-taken.result (get_or c.args.trades.now c.loop-trade.trade-index no_trade).price (omega arith) in
     record { fits = omega arith }
 

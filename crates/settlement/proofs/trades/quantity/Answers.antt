@@ -3,8 +3,8 @@ use Rattle.settlement.proofs.Limits.{no_trade, read_small}
 use Rattle.settlement.proofs.Units.{length_more, length-end}
 use Rattle.settlement.proofs.trades.quantity.Goals as goal
 
-pub overflow-add-sum : goal.overflow-add-sum
-overflow-add-sum c =
+pub overflow_add-sum : goal.overflow_add-sum
+overflow_add-sum c =
     let s = read_small c.args.trades.now c.loop-trade.trade-index c.loop-trade-test.true c.requires in
     record { fits = omega arith }
 

@@ -9,13 +9,13 @@ use Rattle.sheet.specs.Sheet.{FitsLine}
 use Rattle.sheet.proofs.SheetLaws.{blank}
 use Rattle.sheet.proofs.writing.are_coded.Goals as goal
 
-pub returns-then-not-is-coded : goal.returns-then-not-is-coded
-returns-then-not-is-coded c =
+pub returns-then-not-is_coded : goal.returns-then-not-is_coded
+returns-then-not-is_coded c =
     let i = c.loop-trade.trade-index in
     record {
       coded = (
         λ e. absurd (false≢true e),
-        λ a. absurd (not_from_Decides c.is-coded.result c.is-coded.ensures.coded (search rules)
+        λ a. absurd (not_from_Decides c.is_coded.result c.is_coded.ensures.coded (search rules)
             (All-get_or (λ t. t.month ≤ last_month) c.args.trades.now i blank c.loop-trade-test.true a)),
       );
       fits = λ e. absurd (false≢true e);
@@ -24,8 +24,8 @@ returns-then-not-is-coded c =
 pub loop-trade-preserved : goal.loop-trade-preserved
 loop-trade-preserved c =
     let i = c.loop-trade.trade-index in (
-      All-more (λ t. t.month ≤ last_month) c.args.trades.now i blank c.loop-trade-test.true c.loop-trade.invariant.0 (c.is-coded.ensures.coded.0 (search rules)),
-      All-more FitsLine c.args.trades.now i blank c.loop-trade-test.true c.loop-trade.invariant.1 c.is-coded.ensures.fits,
+      All-more (λ t. t.month ≤ last_month) c.args.trades.now i blank c.loop-trade-test.true c.loop-trade.invariant.0 (c.is_coded.ensures.coded.0 (search rules)),
+      All-more FitsLine c.args.trades.now i blank c.loop-trade-test.true c.loop-trade.invariant.1 c.is_coded.ensures.fits,
     )
 
 pub returns : goal.returns

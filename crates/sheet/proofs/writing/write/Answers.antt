@@ -5,9 +5,9 @@ use Rattle.sheet.proofs.writing.write.Goals as goal
 pub returns : goal.returns
 returns c = (
   omega arith,
-  (omega arith, (omega arith, c.if-not-are-coded.ensures.coded.0 refl), c.if-not-are-coded.ensures.fits refl),
-  sheet-put c.args.day c.args.trades.now c.args.out.now c.copy-from-slice.new.self c.copy-from-slice-2.new.self
-      c.write-sides.new.out c.write-terms.new.out
-      (c.copy-from-slice.ensures.after ∙ c.to-le-bytes.ensures) (c.copy-from-slice-2.ensures.after ∙ c.to-le-bytes-2.ensures)
-      c.write-sides.ensures c.write-terms.ensures,
+  (omega arith, (omega arith, c.if-not-are_coded.ensures.coded.0 refl), c.if-not-are_coded.ensures.fits refl),
+  sheet-put c.args.day c.args.trades.now c.args.out.now c.copy_from_slice.new.self c.copy_from_slice-2.new.self
+      c.write_sides.new.out c.write_terms.new.out
+      (c.copy_from_slice.ensures.after ∙ c.to_le_bytes.ensures) (c.copy_from_slice-2.ensures.after ∙ c.to_le_bytes-2.ensures)
+      c.write_sides.ensures c.write_terms.ensures,
 )

@@ -8,7 +8,7 @@ pub returns : goal.returns
 returns c =
     let d = c.args.self.now in
     let v : c.start.result ≡ first_day (month_number d.year d.month)
-    = c.start.ensures.value ∙ ap first_day c.month-number.ensures.value in
+    = c.start.ensures.value ∙ ap first_day c.month_number.ensures.value in
     record {
       value = v;
       bound = omega (arith, date-bound d.year d.month d.day d.real);

@@ -4,5 +4,5 @@ use Rattle.dates.proofs.date.Date.parse.Goals as goal
 
 pub returns-in-None : goal.returns-in-None
 returns-in-None c =
-    let n : Formed c.args.text.now → ⊥ = rw c.as-bytes.ensures.value at c.in-None.ensures in
+    let n : Formed c.args.text.now → ⊥ = rw c.as_bytes.ensures.value at c.in-None.ensures in
     (n, undated c.args.text.now n)

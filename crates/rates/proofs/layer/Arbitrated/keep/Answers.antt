@@ -4,10 +4,10 @@ use Rattle.rates.specs.Layering.{layer-more}
 use Rattle.rates.specs.Listing.{limit-more}
 use Rattle.rates.proofs.layer.Arbitrated.keep.Goals as goal
 
-pub invariant-of-self : goal.invariant-of-self
-invariant-of-self g c =
+pub invariant_of-self : goal.invariant_of-self
+invariant_of-self g c =
     let x = c.args.self.now in
-    (omega arith, (omega arith, (ap within_limit c.push-reserved.ensures.items ∙ limit-more (vec_items x.days) (record { day = c.args.day; rate = c.args.rate }) x.limited c.requires.limit, tt)))
+    record { few = omega arith; room = omega arith; limited = ap within_limit c.push_reserved.ensures.items ∙ limit-more (vec_items x.days) (record { day = c.args.day; rate = c.args.rate }) x.limited c.requires.limit }
 
 pub returns : goal.returns
 returns g c = record { below = search rules; kept = search rules; sets = search (rules, layer-more) }

@@ -24,16 +24,16 @@ returns c =
     let i = c.args.line in
     let count : c.count-count.result ≡ v.count = c.count-count.ensures.0 in
     let within : i < v.count = omega (arith, c.if-line-count.false) in
-    let terms = c.terms-of.result.now in
+    let terms = c.terms_of.result.now in
     let k : (4 + 2 * i + 2) - (4 + 2 * i) ≡ 2 = omega arith in
-    let t : terms ≡ terms_at v.count b i = c.terms-of.ensures.value ∙ ap (λ (n : ℕ). terms_at n b i) count in
+    let t : terms ≡ terms_at v.count b i = c.terms_of.ensures.value ∙ ap (λ (n : ℕ). terms_at n b i) count in
     record {
       past = λ h. absurd (omega arith);
       value = λ s.
           let n = s.1 in
           let e : code_of b i ≡ take 6 terms = cc in
           let o : IsCode (take 6 terms) = subst IsCode e (s.0.1 i (omega arith)) in
-          trade-found (take 6 terms) c.trade-from.result (trade_from (take ((4 + 2 * i + 2) - (4 + 2 * i)) (drop (4 + 2 * i) b)) terms) c.trade-from.ensures o
+          trade-found (take 6 terms) c.trade_from.result (trade_from (take ((4 + 2 * i + 2) - (4 + 2 * i)) (drop (4 + 2 * i) b)) terms) c.trade_from.ensures o
           ∙ ap (λ (x : ℕ). Some (trade_from (take x (drop (4 + 2 * i) b)) terms)) k
           ∙ ap (λ (x : List ℕ). Some (trade_from (sides_at b i) x)) t
           ∙ sym (line_at v.count b i within);
