@@ -42,8 +42,8 @@ impl Uncorrected {
 fn by_rate<S: RateSource>(source: &S, day: u32, price: u64) -> Result<u64, Uncorrected>
     requires { price ≤ 90000000000 }
     ensures { MatchResult result
-        (λ p. (is_some (rates source.now day) ≡ true) × (p ≡ corrected_day price (factor_on (rates source.now) day)) × (p ≤ price + 280000000))
-        (λ e. (e ≡ MissingRate day) × (rates source.now day ≡ None)) }
+        (λ p. (is_some (S.rates source.now day) ≡ true) × (p ≡ corrected_day price (factor_on (S.rates source.now) day)) × (p ≤ price + 280000000))
+        (λ e. (e ≡ MissingRate day) × (S.rates source.now day ≡ None)) }
 {
     let Some(rate) = source.rate(day) else {
         return Err(Uncorrected::MissingRate(day));
@@ -65,7 +65,7 @@ fn day_on<C: Calendar, S: RateSource>(
     carried: u64,
 ) -> Result<u64, Uncorrected>
     requires { carried ≤ 90000000000 }
-    ensures { (from price : ℕ) → from ≤ day → Carried (kinds calendar.now) (rates source.now) from day price carried → DayOn (kinds calendar.now) (rates source.now) from day price carried result }
+    ensures { (from price : ℕ) → from ≤ day → Carried (C.kinds calendar.now) (S.rates source.now) from day price carried → DayOn (C.kinds calendar.now) (S.rates source.now) from day price carried result }
 {
     if !calendar.kind(day).is_reserve() {
         return Ok(carried);
@@ -81,8 +81,8 @@ fn carry<C: Calendar, S: RateSource>(
     to: u32,
     price: u32,
 ) -> Result<u64, Uncorrected>
-    requires { Short (kinds calendar.now) from to }
-    ensures { Answer (kinds calendar.now) (rates source.now) from to price result }
+    requires { Short (C.kinds calendar.now) from to }
+    ensures { Answer (C.kinds calendar.now) (S.rates source.now) from to price result }
 {
     let end = to.min(LAST_DAY + 1);
     let mut carried = price as u64;
@@ -104,7 +104,7 @@ pub fn correct<C: Calendar, S: RateSource>(
     to: u32,
     price: u32,
 ) -> Result<u64, Uncorrected>
-    ensures { Answer (kinds calendar.now) (rates source.now) from to price result }
+    ensures { Answer (C.kinds calendar.now) (S.rates source.now) from to price result }
 {
     if count_reserve_days(calendar, from, to) > MOST_DAYS {
         return Err(Uncorrected::TooLong);

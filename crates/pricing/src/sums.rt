@@ -67,7 +67,7 @@ pub struct Tally {
 
 // Adds up the trades of a sheet that are picked.
 pub fn add_up<P: Pick>(view: &SheetView<'_>, pick: &P) -> Tally
-    ensures { Sound view.now → Tallied (picked pick.now) (view_trades view.now) result }
+    ensures { Sound view.now → Tallied (P.picked pick.now) (view_trades view.now) result }
 {
     let mut lines = 0;
     let mut contracts: u64 = 0;

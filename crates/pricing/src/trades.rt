@@ -69,7 +69,7 @@ pub fn price_trade<C: Calendar>(
     session: u32,
     trade: Trade,
 ) -> Result<PricedTrade, Cause>
-    ensures { Answer (kinds calendar.now) session trade result }
+    ensures { Answer (C.kinds calendar.now) session trade result }
 {
     let Some(expiry) = expiry(calendar, trade.month) else {
         return Err(Cause::NoSession);
