@@ -6,11 +6,13 @@ mod gaps;
 mod numbers;
 mod sheets;
 
+use anyhow::anyhow;
 use figures::{factors, prices};
 use gaps::corrections;
 use sheets::sheets;
 use std::alloc::Global;
-use std::env;
+use std::process::ExitCode;
+use std::{env, io};
 
 const HELP: &str = "a command is prices N, factors N, corrections N or sheets N";
 
@@ -27,29 +29,29 @@ fn answer(heap: Global, command: &str, count: u32) -> anyhow::Result<String> {
             let total = sheets(heap, count)?;
             Ok(format!(in heap; "{count} sheets, {total}")?)
         }
-        _ => Err(HELP.into()),
+        _ => Err(anyhow!(HELP)),
     }
 }
 
 fn run(rt: &HostRuntime) -> anyhow::Result<()> {
     let mut words = env::args(rt)?.skip(1);
     let (Some(command), Some(count), None) = (words.next(), words.next(), words.next()) else {
-        return Err(HELP.into());
+        return Err(anyhow!(HELP));
     };
     let Ok(count) = count.as_str().parse::<u32>() else {
-        return Err(HELP.into());
+        return Err(anyhow!(HELP));
     };
     let printed = answer(rt.alloc(), command.as_str(), count)?;
     println!(rt; "{printed}")?;
     Ok(())
 }
 
-fn main(rt: HostRuntime) -> anyhow::Result<()> {
+fn main(rt: HostRuntime) -> io::Result<ExitCode> {
     match run(&rt) {
-        Ok(()) => Ok(()),
+        Ok(()) => Ok(ExitCode::SUCCESS),
         Err(failure) => {
             eprintln!(rt; "measure: {failure}")?;
-            Err(failure)
+            Ok(ExitCode::FAILURE)
         }
     }
 }

@@ -9,10 +9,9 @@ mod report;
 mod sheets;
 mod texts;
 
-use anyhow::anyhow;
 use failure::Failure;
-use std::alloc::Global;
-use std::env;
+use std::process::ExitCode;
+use std::{env, io};
 
 const HELP: &str =
     "settle prices OFFICE SHEET           prices every line of a sheet on the office's calendar
@@ -63,12 +62,12 @@ fn run(rt: &HostRuntime) -> Result<(), Failure> {
     Ok(())
 }
 
-fn main(rt: HostRuntime) -> anyhow::Result<()> {
+fn main(rt: HostRuntime) -> io::Result<ExitCode> {
     match run(&rt) {
-        Ok(()) => Ok(()),
+        Ok(()) => Ok(ExitCode::SUCCESS),
         Err(failure) => {
             eprintln!(rt; "settle: {failure}")?;
-            Err(anyhow!("refused"))
+            Ok(ExitCode::FAILURE)
         }
     }
 }

@@ -135,7 +135,7 @@ fn months(heap: Global, view: &SheetView) -> Result<Vec<u32>, Failure> {
             months.push(trade.month)?;
         }
     }
-    months.sort();
+    months.sort_unstable();
     months.dedup();
     Ok(months)
 }
