@@ -1,9 +1,9 @@
 -- The days of the week one by one, and the exceptions from the last to the first.
-use Rattle.std.proofs.Common.{◌≡◌, ℕ, zero, suc, ◌+◌, ◌-◌, ◌<◌, ◌≤◌, Bool, true, false, cond, eqb, ◌≢◌, List, [], ◌∷◌, ◌++◌, length, get_or, drop, set, sym, refl, ap, ◌∙◌, arith, below_more, ne_eqb, eqb-true}
+use Rattle.std.proofs.Common.{◌≡◌, ℕ, ◌+◌, ◌<◌, ◌≤◌, Bool, true, false, cond, eqb, ◌≢◌, List, [], ◌∷◌, ◌++◌, length, get_or, drop, set, sym, refl, ap, ◌∙◌, arith, below_more, ne_eqb, eqb-true}
 use borrow.Author.Tests.{eqb-false}
 use Rattle.std.proofs.lemmas.List.{length_push, length-set, get_or_append_left, get_or_push, get_or-set_same, get_or-set_other, at_drop_more, at_drop_all}
 use Rattle.calendar.specs.declared.kind.DayKind.{DayKind}
-use Rattle.calendar.specs.declared.kind.DayKind.TheVariants.{Closed, Reserve, Session}
+use Rattle.calendar.specs.declared.kind.DayKind.TheVariants.{Closed}
 use Rattle.calendar.specs.declared.rule.Exception.{Exception}
 use Rattle.calendar.specs.Kinds.{of_mark, of_week, excepted}
 use Rattle.calendar.specs.Ruled.{Tells}

@@ -1,9 +1,9 @@
 -- Laws of the days of a range.
-use Rattle.std.proofs.Common.{◌≡◌, ℕ, zero, suc, ◌+◌, ◌-◌, ◌<◌, ◌≤◌, min, Bool, true, false, cond, List, [], ◌∷◌, ◌++◌, length, IfSome, Some, None, filter, Option, sym, refl, ap, ◌∙◌, subst, add-zero, add-suc, add-one, arith}
+use Rattle.std.proofs.Common.{◌≡◌, ℕ, zero, suc, ◌+◌, ◌-◌, ◌<◌, ◌≤◌, min, Bool, true, false, cond, List, [], ◌∷◌, ◌++◌, length, IfSome, Some, None, filter, Option, sym, refl, ap, ◌∙◌, add-zero, arith}
 use Rattle.std.proofs.lemmas.List.{append-nil, length-append}
 use Rattle.std.specs.List.{range_with_len}
 use Rattle.calendar.specs.declared.kind.DayKind.{DayKind}
-use Rattle.calendar.specs.declared.kind.DayKind.TheVariants.{Closed, Reserve, Session}
+use Rattle.calendar.specs.declared.kind.DayKind.TheVariants.{Closed}
 use Rattle.calendar.specs.Kinds.{is_reserve, is_session}
 use Rattle.calendar.specs.Spans.{days_by, reserve_days, first_in, first_session, First}
 

@@ -1,5 +1,5 @@
 -- Each date has one day number, and each day number one date. Assumes nothing.
-use Rattle.std.proofs.Common.{◌≡◌, ℕ, ◌+◌, ◌-◌, ◌*◌, ◌/◌, ◌%◌, ◌<◌, ◌≤◌, sym, ap, ◌∙◌, arith}
+use Rattle.std.proofs.Common.{◌≡◌, ℕ, ◌+◌, ◌-◌, ◌/◌, ◌%◌, ◌≤◌, sym, ap, ◌∙◌, arith}
 use Rattle.dates.specs.Months.{month_length, first_day, month_of, Holds}
 use Rattle.dates.specs.Dates.{month_number, Real, day_of}
 use Rattle.dates.proofs.MonthLaws.{first-day-suc, first-day-grows, days-end, month-is}

@@ -1,7 +1,7 @@
 -- Dates as ten bytes of text. Assumes nothing.
-use Rattle.std.proofs.Common.{◌≡◌, ℕ, zero, suc, ◌+◌, ◌-◌, ◌*◌, ◌/◌, ◌%◌, ◌<◌, ◌≤◌, List, [], ◌∷◌, length, get_or, drop, ap, ◌∙◌, arith, drop-cons}
+use Rattle.std.proofs.Common.{◌≡◌, ℕ, zero, suc, ◌+◌, ◌*◌, ◌/◌, ◌%◌, List, [], ◌∷◌, length, get_or, drop, ap, ◌∙◌, arith, drop-cons}
 use lib.Seq.{drop-length}
-use Rattle.dates.specs.Dates.{month_number, Real, date_text, Digits, Formed, Undated}
+use Rattle.dates.specs.Dates.{month_number, date_text, Digits, Formed, Undated}
 use Rattle.dates.proofs.MonthLaws.{length-bound}
 
 -- the text of a date has the form of one

@@ -1,5 +1,5 @@
 -- Laws of corrected prices: day by day, over joined gaps, and how far from the exact product.
-use Rattle.std.proofs.Common.{◌≡◌, ℕ, ◌+◌, ◌*◌, ◌/◌, ◌^◌, ◌≤◌, List, [], ◌∷◌, ◌++◌, length, ℤ, pos, ◌+ℤ◌, ◌-ℤ◌, ◌*ℤ◌, nat_abs, sym, refl, ap, ◌∙◌, mul-le-mul_right, mul-le-mul_left, pow-suc, arith}
+use Rattle.std.proofs.Common.{◌≡◌, ℕ, ◌+◌, ◌*◌, ◌^◌, ◌≤◌, List, [], ◌∷◌, ◌++◌, length, ℤ, pos, ◌+ℤ◌, ◌-ℤ◌, ◌*ℤ◌, nat_abs, refl, mul-le-mul_right, mul-le-mul_left, pow-suc, arith}
 use native.Mathlib.Nat.{pow-zero}
 use borrow.Author.Differences.{ints}
 use Rattle.interest.specs.Correction.{corrected_day, corrected}

@@ -1,5 +1,5 @@
 -- What one side of a trade gains the other loses.
-use Rattle.std.proofs.Common.{◌≡◌, ℕ, ◌*◌, Bool, true, false, cond, ◌&&◌, eqb, List, [], ◌∷◌, ℤ, pos, ◌-ℤ◌, ◌*ℤ◌, count_by, ap, ◌∙◌, arith}
+use Rattle.std.proofs.Common.{◌≡◌, ℕ, ◌*◌, Bool, true, false, cond, ◌&&◌, eqb, List, [], ◌∷◌, pos, ◌-ℤ◌, ◌*ℤ◌, count_by, ap, ◌∙◌, arith}
 use borrow.Author.Differences.{ints}
 use Rattle.std.proofs.lemmas.List.Sums.{sum_by-cons}
 use Rattle.settlement.specs.declared.trades.Side.{Side}

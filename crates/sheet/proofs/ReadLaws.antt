@@ -1,5 +1,5 @@
 -- From what reading found to what the bytes are. Assumes nothing.
-use Rattle.std.proofs.Common.{◌≡◌, ℕ, ◌-◌, ◌<◌, true, false, List, get_or, is_some, Some, None, Ok, Err, Option, Result, sym, ap, ◌∙◌, subst, arith, w8, Fits, MatchOption}
+use Rattle.std.proofs.Common.{◌≡◌, ℕ, ◌<◌, true, false, List, get_or, is_some, Some, None, Ok, Err, Option, Result, sym, ap, ◌∙◌, subst, arith, w8, Fits, MatchOption}
 use Rattle.std.specs.Result as results
 use Rattle.std.proofs.ByRecursion.{All-from_get_or}
 use Rattle.std.proofs.lemmas.Bool.{true≢false, false≢true}

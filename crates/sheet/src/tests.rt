@@ -59,8 +59,8 @@ const SHEET: [u8; 36] =
 fn written(rt: HostRuntime) {
     let mut out = [7; 38];
     assert_eq!(rt; write(12_345, &LINES, &mut out), Ok(36));
-    assert!(rt; &out[0..36] == &SHEET);
-    assert!(rt; &out[36..38] == &[7, 7]);
+    assert!(rt; &out[0..36] == SHEET.as_slice());
+    assert!(rt; &out[36..38] == [7, 7].as_slice());
     let mut short = [7; 35];
     assert_eq!(rt; write(12_345, &LINES, &mut short), Err(WriteFault::Short));
     assert!(rt; short == [7; 35]);
@@ -72,7 +72,7 @@ fn written(rt: HostRuntime) {
         quantity: 0,
     }];
     assert_eq!(rt; write(0, &bad, &mut out), Err(WriteFault::BadSheet));
-    assert!(rt; &out[0..36] == &SHEET);
+    assert!(rt; &out[0..36] == SHEET.as_slice());
 }
 
 #[test]

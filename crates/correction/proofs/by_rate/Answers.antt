@@ -1,4 +1,4 @@
-use Rattle.std.proofs.Common.{◌≡◌, is_some, unwrap_or, sym, ap, ◌∙◌, arith}
+use Rattle.std.proofs.Common.{is_some, unwrap_or, sym, ap, ◌∙◌, arith}
 use Rattle.interest.specs.Correction.{corrected_day}
 use Rattle.interest.specs.Price.{day_factor}
 use Rattle.interest.proofs.Carried.{day-adds}

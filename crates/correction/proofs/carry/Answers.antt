@@ -1,4 +1,4 @@
-use Rattle.std.proofs.Common.{◌≡◌, sym, refl, ap, ◌∙◌, arith}
+use Rattle.std.proofs.Common.{refl, arith}
 use Rattle.correction.proofs.Steps.{carried_none, small, arrived}
 use Rattle.correction.proofs.carry.Goals as goal
 

@@ -1,5 +1,5 @@
-use Rattle.std.proofs.Common.{◌≡◌, ◌+◌, ◌/◌, ◌<◌, ◌≤◌, sym, arith}
-use Rattle.dates.specs.Months.{first_day, Holds}
+use Rattle.std.proofs.Common.{◌≡◌, ◌+◌, ◌/◌, sym, arith}
+use Rattle.dates.specs.Months.{Holds}
 use Rattle.dates.proofs.MonthLaws.{guess-fits, month-by, month-holds, first-day-suc}
 use Rattle.dates.proofs.month_of.Goals as goal
 

@@ -1,4 +1,4 @@
-use Rattle.std.proofs.Common.{◌≡◌, ℕ, length, sym, ap, ◌∙◌, arith, rules}
+use Rattle.std.proofs.Common.{◌≡◌, length, sym, ap, ◌∙◌, arith, rules}
 use Rattle.calendar.specs.Kinds.{is_reserve}
 use Rattle.calendar.specs.Spans.{reserve_days}
 use Rattle.calendar.proofs.Spans.{days-none, count-more, count-ends}

@@ -1,4 +1,4 @@
-use Rattle.std.proofs.Common.{length, sym, refl, ap, ◌∙◌, arith}
+use Rattle.std.proofs.Common.{length, sym, ap, arith}
 use Rattle.calendar.specs.Kinds.{is_reserve}
 use Rattle.calendar.proofs.Spans.{days-none, count-ends}
 use Rattle.calendar.proofs.span.count_reserve_days.Goals as goal

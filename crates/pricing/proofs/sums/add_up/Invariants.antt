@@ -1,4 +1,4 @@
-use Rattle.std.proofs.Common.{◌*◌, ◌^◌, ◌≤◌}
+use Rattle.std.proofs.Common.{◌*◌, ◌≤◌}
 use Rattle.sheet.specs.Views.{view_trades, Sound}
 use Rattle.pricing.proofs.Parts.{Part}
 use Rattle.pricing.proofs.sums.add_up.Given as goal
