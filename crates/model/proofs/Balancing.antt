@@ -2,7 +2,7 @@
 use Rattle.std.proofs.Common.{◌≡◌, ℕ, zero, suc, ◌+◌, ◌<◌, ◌≤◌, Bool, true, false, cond, eqb, ◌⊎◌, List, [], ◌∷◌, ℤ, pos, ◌+ℤ◌, ◌-ℤ◌, ◌*ℤ◌, None, count_by, sym, refl, ap, ◌∙◌, inl, inr, arith}
 use mathlib.Core.Path.{fun_ext}
 use lib.IntN.{zero-*ℤ}
-use Rattle.std.specs.List.{range_with_len, AllByRecursion as All}
+use Rattle.std.specs.List.{range_with_len, AllByRecursion}
 use Rattle.std.proofs.ByRecursion.{All-append, All-weaker}
 use Rattle.std.proofs.lemmas.List.Sums.{sum_by-cons}
 use Rattle.std.proofs.lemmas.Bool.{true≢false, eq-eqb, ne_eqb, cases_eq}
@@ -47,7 +47,7 @@ pub index-once : (a : ℕ) → a < 32 → Once account_indices a
 index-once a h = counted-once a 0 32 (omega arith) (omega arith)
 
 -- both sides of each trade stand once among the indices
-pub among : (w : World) (h : History) → Lawful w h → (ts : List Trade) → All (FitsIn h) ts → Among account_indices ts
+pub among : (w : World) (h : History) → Lawful w h → (ts : List Trade) → AllByRecursion (FitsIn h) ts → Among account_indices ts
 among w h l ts f =
     let few = accounts-few w h l in
     All-weaker (FitsIn h) (λ t. Once account_indices t.buyer × Once account_indices t.seller)
@@ -63,7 +63,7 @@ changes-opposite m accounts (t ∷ ts) g =
     total-sum (λ a. contracts_of a m t) (λ a. position_change a m ts) accounts
     ∙ rw (contracts-opposite m t accounts g.0.0 g.0.1, changes-opposite m accounts ts g.1)
 
-pub sessions-opposite : (m : ℕ) (accounts : List ℕ) (ss : List Session) → All (λ s. Among accounts s.trades) ss
+pub sessions-opposite : (m : ℕ) (accounts : List ℕ) (ss : List Session) → AllByRecursion (λ s. Among accounts s.trades) ss
     → total (λ a. contracts_in a m ss) accounts ≡ pos 0
 sessions-opposite m accounts [] g = total-zero accounts
 sessions-opposite m accounts (s ∷ ss) g =
@@ -85,7 +85,7 @@ pub carried-balance : (w : World) (h : History) (m : ℕ) → Lawful w h → tot
 carried-balance w h m l =
     cond-opposite (has_ended w h m) (λ a. contracts_in a m (sessions_of w h)) account_indices
     (sessions-opposite m account_indices (sessions_of w h)
-    (All-weaker (λ s. All (FitsIn h) s.trades) (λ s. Among account_indices s.trades) (λ s. among w h l s.trades) (sessions_of w h) (closed-fit w h l)))
+    (All-weaker (λ s. AllByRecursion (FitsIn h) s.trades) (λ s. Among account_indices s.trades) (λ s. among w h l s.trades) (sessions_of w h) (closed-fit w h l)))
 
 gains-opposite : (f : ℕ → ℤ) (price before : ℕ) (accounts : List ℕ) → total f accounts ≡ pos 0
     → total (λ a. gain_of (f a) price before) accounts ≡ pos 0
@@ -107,7 +107,7 @@ adjustments-balance w h m l =
 abbrev Even : Amounts → Type 0
 Even c = (m : ℕ) → total (λ a. c.adjustments a m) account_indices ≡ pos 0
 
-new-even : (w : World) (h : History) (e : Event) → Lawful w (e ∷ h) → All Even (list_of (written e))
+new-even : (w : World) (h : History) (e : Event) → Lawful w (e ∷ h) → AllByRecursion Even (list_of (written e))
 new-even w h (Entered x) l = tt
 new-even w h (Listed n) l = tt
 new-even w h (Published d r) l = tt
@@ -119,7 +119,7 @@ new-even w h (Closed c) l =
     (λ m. total-same (λ a. c.adjustments a m) (λ a. adjustment_at w h a m) account_indices (λ a. cells w h c l a m) ∙ adjustments-balance w h m l.1, tt)
 new-even w h Paid l = tt
 
-all-even : (w : World) (h : History) → Lawful w h → All Even (gather written h)
+all-even : (w : World) (h : History) → Lawful w h → AllByRecursion Even (gather written h)
 all-even w [] l = tt
 all-even w (e ∷ h) l = All-append Even (gather written h) (list_of (written e)) (all-even w h l.1) (new-even w h e l)
 

@@ -1,7 +1,7 @@
 -- The history of the wrong books is lawful with the right amounts, and the second claim fails of it with each pair of wrong ones.
 use Rattle.std.proofs.Common.{◌≡◌, ℕ, zero, suc, drop, ℤ, pos, ◌+ℤ◌, refl, arith, lit<, lit≤}
 use borrow.Author.Differences.{ints}
-use Rattle.std.specs.List.{AllByRecursion as All}
+use Rattle.std.specs.List.{AllByRecursion}
 use Rattle.std.proofs.ByRecursion.{All-weaker}
 use Rattle.dates.specs.Months.{month_of}
 use Rattle.dates.proofs.MonthLaws.{month-is}
@@ -93,7 +93,7 @@ all-balanced x y = record {
   accounts = λ a. regrouped (written_for a (both x)) (written_for a (both y));
 }
 
-all-caught : All TooFar wrong_amounts
+all-caught : AllByRecursion TooFar wrong_amounts
 unfolding figures
 all-caught = (lit< tt, (lit< tt, (lit< tt, (lit< tt, (lit< tt, tt)))))
 

@@ -2,7 +2,7 @@
 use Rattle.std.proofs.Common.{◌≡◌, ℕ, ◌<◌, ◌≤◌, Bool, true, false, cond, ◌&&◌, eqb, ◌⊎◌, List, [], ◌∷◌, length, ℤ, pos, ◌-ℤ◌, sym, refl, ap, ◌∙◌, inl, inr, arith}
 use lib.IntN.{zero-*ℤ}
 use borrow.Author.Differences.{ints}
-use Rattle.std.specs.List.{AllByRecursion as All}
+use Rattle.std.specs.List.{AllByRecursion}
 use Rattle.std.proofs.ByRecursion.{All-weaker}
 use Rattle.std.proofs.lemmas.Bool.{and_parts, eqb-true, cases_lt}
 use Rattle.settlement.specs.declared.trades.Side.{Side}
@@ -35,7 +35,7 @@ pub outside : (n k a m : ℕ) (t : Trade) → Fits n k t → ((a < n) × (m < k)
 outside n k a m t f out = rw (lots-outside Bought n k a m t f.seller f.month out, lots-outside Sold n k a m t f.buyer f.month out)
 
 -- a sum of nothing but zeros
-pub total-none : {X : Type 0} (f : X → ℤ) (xs : List X) → All (λ x. f x ≡ pos 0) xs → total f xs ≡ pos 0
+pub total-none : {X : Type 0} (f : X → ℤ) (xs : List X) → AllByRecursion (λ x. f x ≡ pos 0) xs → total f xs ≡ pos 0
 total-none f [] z = refl
 total-none f (x ∷ xs) z = omega (arith, ints, z.0, total-none f xs z.1)
 
@@ -45,16 +45,16 @@ unfolding gain_of
 gain-none price before = zero-*ℤ (pos price -ℤ pos before)
 
 module _ (n k a m : ℕ) (out : (a < n) × (m < k) → ⊥) where
-  pub change-outside : (ts : List Trade) → All (Fits n k) ts → position_change a m ts ≡ pos 0
+  pub change-outside : (ts : List Trade) → AllByRecursion (Fits n k) ts → position_change a m ts ≡ pos 0
   change-outside ts f =
       total-none (contracts_of a m) ts (All-weaker (Fits n k) (λ t. contracts_of a m t ≡ pos 0) (λ t g. outside n k a m t g out) ts f)
 
-  pub contracts-outside : (ss : List Session) → All (λ s. All (Fits n k) s.trades) ss → contracts_in a m ss ≡ pos 0
+  pub contracts-outside : (ss : List Session) → AllByRecursion (λ s. AllByRecursion (Fits n k) s.trades) ss → contracts_in a m ss ≡ pos 0
   contracts-outside ss f =
       total-none (λ s. position_change a m s.trades) ss
-      (All-weaker (λ s. All (Fits n k) s.trades) (λ s. position_change a m s.trades ≡ pos 0) (λ s. change-outside s.trades) ss f)
+      (All-weaker (λ s. AllByRecursion (Fits n k) s.trades) (λ s. position_change a m s.trades ≡ pos 0) (λ s. change-outside s.trades) ss f)
 
-  pub trades-outside : (price : ℕ) (ts : List Trade) → All (Fits n k) ts → on_trades a m price ts ≡ pos 0
+  pub trades-outside : (price : ℕ) (ts : List Trade) → AllByRecursion (Fits n k) ts → on_trades a m price ts ≡ pos 0
   unfolding on_trades
   trades-outside price ts f =
       total-none (λ t. gain_of (contracts_of a m t) price t.price) ts

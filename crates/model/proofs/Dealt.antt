@@ -1,7 +1,7 @@
 -- The trades accepted so far: their accounts and months are in the book, and they are few and small.
 use Rattle.std.proofs.Common.{◌≡◌, ℕ, ◌<◌, ◌≤◌, Bool, true, false, cond, List, [], ◌∷◌, ◌++◌, length, ℤ, pos, ◌+ℤ◌, is_some, Some, None, Option, sym, refl, ap, ◌∙◌, arith}
 use borrow.Author.Differences.{ints}
-use Rattle.std.specs.List.{AllByRecursion as All}
+use Rattle.std.specs.List.{AllByRecursion}
 use Rattle.std.proofs.lemmas.List.{append-nil, append_assoc, length-append, length_push}
 use Rattle.std.proofs.ByRecursion.{All-append, All-weaker}
 use Rattle.std.proofs.lemmas.Bool.{true≢false}
@@ -39,12 +39,12 @@ opening-silent (Marked m p) k = refl
 opening-silent (Closed c) k = refl
 opening-silent Paid k = refl
 
-all_right : {X : Type 0} (P : X → Type 0) (xs ys : List X) → All P (xs ++ ys) → All P ys
+all_right : {X : Type 0} (P : X → Type 0) (xs ys : List X) → AllByRecursion P (xs ++ ys) → AllByRecursion P ys
 all_right P [] ys h = h
 all_right P (x ∷ xs) ys h = all_right P xs ys h.1
 
 -- what holds of all trades holds of the session's
-pub of-session : (P : Trade → Type 0) (h : History) → All P (gather traded h) → All P (trades_of h)
+pub of-session : (P : Trade → Type 0) (h : History) → AllByRecursion P (gather traded h) → AllByRecursion P (trades_of h)
 of-session P h all = all_right P (gather traded (before is_opening h)) (trades_of h) (rw (gather-split traded is_opening opening-silent h) at all)
 
 -- a trade between accounts below n, in a month below k, of at most 20,000 contracts
@@ -109,7 +109,7 @@ trades-few w (Closed c ∷ h) l = rw (append-nil (trades_of h)) (trades-few w h 
 trades-few w (Paid ∷ h) l = rw (append-nil (trades_of h)) (trades-few w h l.1)
 
 -- a trade that is accepted fits
-new-fits : (w : World) (h : History) (e : Event) → Accepts w h e → All (FitsIn h) (list_of (traded e))
+new-fits : (w : World) (h : History) (e : Event) → Accepts w h e → AllByRecursion (FitsIn h) (list_of (traded e))
 new-fits w h (Entered x) l = tt
 new-fits w h (Listed n) l = tt
 new-fits w h (Published d r) l = tt
@@ -121,28 +121,28 @@ new-fits w h (Closed c) l = tt
 new-fits w h Paid l = tt
 
 -- all trades so far fit
-pub trades-fit : (w : World) (h : History) → Lawful w h → All (FitsIn h) (gather traded h)
+pub trades-fit : (w : World) (h : History) → Lawful w h → AllByRecursion (FitsIn h) (gather traded h)
 trades-fit w [] l = tt
 trades-fit w (e ∷ h) l =
     All-weaker (FitsIn h) (FitsIn (e ∷ h)) (fits-stays h e) (gather traded h ++ list_of (traded e))
     (All-append (FitsIn h) (gather traded h) (list_of (traded e)) (trades-fit w h l.1) (new-fits w h e l.0))
 
-pub session-fits : (w : World) (h : History) → Lawful w h → All (FitsIn h) (trades_of h)
+pub session-fits : (w : World) (h : History) → Lawful w h → AllByRecursion (FitsIn h) (trades_of h)
 session-fits w h l = of-session (FitsIn h) h (trades-fit w h l)
 
 -- and so do those of each closed session
-pub closed-fit : (w : World) (h : History) → Lawful w h → All (λ s. All (FitsIn h) s.trades) (sessions_of w h)
+pub closed-fit : (w : World) (h : History) → Lawful w h → AllByRecursion (λ s. AllByRecursion (FitsIn h) s.trades) (sessions_of w h)
 closed-fit w [] l = tt
 closed-fit w (e ∷ h) l = by (written e) (session-fits w h l.1) (closed-fit w h l.1)
   where
-    stays : (ts : List Trade) → All (FitsIn h) ts → All (FitsIn (e ∷ h)) ts
+    stays : (ts : List Trade) → AllByRecursion (FitsIn h) ts → AllByRecursion (FitsIn (e ∷ h)) ts
     stays ts f = All-weaker (FitsIn h) (FitsIn (e ∷ h)) (fits-stays h e) ts f
 
-    old : All (λ s. All (FitsIn h) s.trades) (sessions_of w h) → All (λ s. All (FitsIn (e ∷ h)) s.trades) (sessions_of w h)
-    old f = All-weaker (λ s. All (FitsIn h) s.trades) (λ s. All (FitsIn (e ∷ h)) s.trades) (λ s. stays s.trades) (sessions_of w h) f
+    old : AllByRecursion (λ s. AllByRecursion (FitsIn h) s.trades) (sessions_of w h) → AllByRecursion (λ s. AllByRecursion (FitsIn (e ∷ h)) s.trades) (sessions_of w h)
+    old f = All-weaker (λ s. AllByRecursion (FitsIn h) s.trades) (λ s. AllByRecursion (FitsIn (e ∷ h)) s.trades) (λ s. stays s.trades) (sessions_of w h) f
 
-    by : (o : Option Amounts) → All (FitsIn h) (trades_of h) → All (λ s. All (FitsIn h) s.trades) (sessions_of w h)
-        → All (λ s. All (FitsIn (e ∷ h)) s.trades) (added w h o (sessions_of w h))
+    by : (o : Option Amounts) → AllByRecursion (FitsIn h) (trades_of h) → AllByRecursion (λ s. AllByRecursion (FitsIn h) s.trades) (sessions_of w h)
+        → AllByRecursion (λ s. AllByRecursion (FitsIn (e ∷ h)) s.trades) (added w h o (sessions_of w h))
     by None f g = old g
     by (Some c) f g = (stays (trades_of h) f, old g)
 

@@ -1,7 +1,7 @@
 -- What is due and what is paid: what moves them, and what a payment pays.
 use Rattle.std.proofs.Common.{◌≡◌, ℕ, ◌≤◌, Bool, true, false, cond, List, [], ◌∷◌, ◌++◌, length, ◌+ℤ◌, is_some, Some, None, Option, sym, refl, ap, ◌∙◌, arith}
 use lib.IntN.{+ℤ_idr}
-use Rattle.std.specs.List.{AllByRecursion as All}
+use Rattle.std.specs.List.{AllByRecursion}
 use Rattle.std.proofs.lemmas.List.{append-nil, length_push}
 use Rattle.std.proofs.lemmas.Bool.{true≢false}
 use Rattle.settlement.specs.Sums.{total}
@@ -70,7 +70,7 @@ record Waits (k h : History) : Type 0 where
   none : gather written k ≡ []
   due : (a : ℕ) → due_of (k ++ h) a ≡ due_of h a
 
-waits : (w : World) (k h : History) → Lawful w (k ++ h) → is_some (newest written (since is_payment h)) ≡ true → All (λ e. is_payment e ≡ false) k → Waits k h
+waits : (w : World) (k h : History) → Lawful w (k ++ h) → is_some (newest written (since is_payment h)) ≡ true → AllByRecursion (λ e. is_payment e ≡ false) k → Waits k h
 waits w [] h l u p = record { unpaid = u; none = refl; due = λ a. refl }
 waits w (e ∷ k) h l u p =
     let r = waits w k h l.1 u p.1 in

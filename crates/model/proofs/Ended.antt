@@ -1,7 +1,7 @@
 -- After the last session of a month its adjustments are 0.
 use Rattle.std.proofs.Common.{◌≡◌, ℕ, ◌<◌, ◌≤◌, true, cond, ◌&&◌, eqb, ◌⊎◌, List, [], ◌∷◌, ◌++◌, length, get_or, pos, ◌+ℤ◌, ◌-ℤ◌, Some, refl, ap, ◌∙◌, ap₂, inl, inr, arith}
 use lib.IntN.{zero-*ℤ}
-use Rattle.std.specs.List.{AllByRecursion as All}
+use Rattle.std.specs.List.{AllByRecursion}
 use Rattle.std.proofs.ByRecursion.{All-push, All-weaker}
 use Rattle.std.proofs.lemmas.List.{append-nil, length_push, get_or_push, get_or_append_left}
 use Rattle.std.proofs.lemmas.Bool.{cases_lt, lt-ltb, ne_eqb, and_from, cond-true}
@@ -27,15 +27,15 @@ InTime w h day t = (t.month < length (months_of h)) × (day < expiry_at w h t.mo
 in-time-stays : (w : World) (h : History) (e : Event) (day : ℕ) (t : Trade) → InTime w h day t → InTime w (e ∷ h) day t
 in-time-stays w h e day t i = (listed-stays h e t.month i.0, rw (months-stay w h e t.month i.0) i.1)
 
-all_stay : (w : World) (h : History) (e : Event) → All (InTime w h (session_day h)) (trades_of h) → All (InTime w (e ∷ h) (session_day h)) (trades_of h)
+all_stay : (w : World) (h : History) (e : Event) → AllByRecursion (InTime w h (session_day h)) (trades_of h) → AllByRecursion (InTime w (e ∷ h) (session_day h)) (trades_of h)
 all_stay w h e a = All-weaker (InTime w h (session_day h)) (InTime w (e ∷ h) (session_day h)) (in-time-stays w h e (session_day h)) (trades_of h) a
 
 -- an event that neither opens nor trades
-same-trades : (w : World) (h : History) (e : Event) → All (InTime w h (session_day h)) (trades_of h) → All (InTime w (e ∷ h) (session_day h)) (trades_of h ++ [])
+same-trades : (w : World) (h : History) (e : Event) → AllByRecursion (InTime w h (session_day h)) (trades_of h) → AllByRecursion (InTime w (e ∷ h) (session_day h)) (trades_of h ++ [])
 same-trades w h e a = rw (append-nil (trades_of h)) (all_stay w h e a)
 
 -- the trades of the session are in months that expire after it
-pub trades-in-time : (w : World) (h : History) → Lawful w h → All (InTime w h (session_day h)) (trades_of h)
+pub trades-in-time : (w : World) (h : History) → Lawful w h → AllByRecursion (InTime w h (session_day h)) (trades_of h)
 trades-in-time w [] l = tt
 trades-in-time w (Entered x ∷ h) l = same-trades w h (Entered x) (trades-in-time w h l.1)
 trades-in-time w (Listed n ∷ h) l = same-trades w h (Listed n) (trades-in-time w h l.1)
@@ -52,7 +52,7 @@ trades-in-time w (Closed c ∷ h) l = same-trades w h (Closed c) (trades-in-time
 trades-in-time w (Paid ∷ h) l = same-trades w h Paid (trades-in-time w h l.1)
 
 -- none is in a month that expires before it or on it
-pub other-months : (w : World) (h : History) (m : ℕ) → Lawful w h → expiry_at w h m ≤ session_day h → All (λ t. t.month ≡ m → ⊥) (trades_of h)
+pub other-months : (w : World) (h : History) (m : ℕ) → Lawful w h → expiry_at w h m ≤ session_day h → AllByRecursion (λ t. t.month ≡ m → ⊥) (trades_of h)
 other-months w h m l b =
     All-weaker (InTime w h (session_day h)) (λ t. t.month ≡ m → ⊥) (λ t x e. let y = ap (expiry_at w h) e in omega (arith, x.1)) (trades_of h)
     (trades-in-time w h l)
@@ -66,11 +66,11 @@ no-contracts a m t n =
     ap (λ b. pos (cond (b && eqb (party_of Bought t) a) t.quantity 0) -ℤ pos (cond (b && eqb (party_of Sold t) a) t.quantity 0)) (ne_eqb t.month m n)
 
 -- trades in other months change no position, and come to nothing
-pub no_change : (a m : ℕ) (ts : List Trade) → All (λ t. t.month ≡ m → ⊥) ts → position_change a m ts ≡ pos 0
+pub no_change : (a m : ℕ) (ts : List Trade) → AllByRecursion (λ t. t.month ≡ m → ⊥) ts → position_change a m ts ≡ pos 0
 no_change a m [] n = refl
 no_change a m (t ∷ ts) n = ap₂ ◌+ℤ◌ (no-contracts a m t n.0) (no_change a m ts n.1)
 
-no-trades : (a m price : ℕ) (ts : List Trade) → All (λ t. t.month ≡ m → ⊥) ts → on_trades a m price ts ≡ pos 0
+no-trades : (a m price : ℕ) (ts : List Trade) → AllByRecursion (λ t. t.month ≡ m → ⊥) ts → on_trades a m price ts ≡ pos 0
 unfolding on_trades
 no-trades a m price [] n = refl
 no-trades a m price (t ∷ ts) n =
@@ -105,7 +105,7 @@ after w h c l a m i b =
         ∙ no-gain (settlement_price w h m) (corrected_to w (rate_on w h) (session_day h) (sessions_of w h) m))
 
 abbrev Ended : World → List ℕ → List Session → Type 0
-Ended w ms ss = (a m : ℕ) → m < length ms → All (λ s. expiry_day w.kinds (get_or ms m 0) < s.day → s.amounts.adjustments a m ≡ pos 0) ss
+Ended w ms ss = (a m : ℕ) → m < length ms → AllByRecursion (λ s. expiry_day w.kinds (get_or ms m 0) < s.day → s.amounts.adjustments a m ≡ pos 0) ss
 
 still : (w : World) (ms : List ℕ) (ss : List Session) → Ended w ms ss → Ended w (ms ++ []) ss
 still w ms ss e = rw (append-nil ms) e
@@ -124,7 +124,7 @@ lists w h n l e a m i =
 
 -- after the expiry of a listed month every close wrote 0 for it
 pub ended : (w : World) (h : History) → Lawful w h → (a m : ℕ) → m < length (months_of h)
-    → All (λ s. expiry_at w h m < s.day → s.amounts.adjustments a m ≡ pos 0) (sessions_of w h)
+    → AllByRecursion (λ s. expiry_at w h m < s.day → s.amounts.adjustments a m ≡ pos 0) (sessions_of w h)
 ended w [] l = λ a m i. tt
 ended w (Entered x ∷ h) l = still w (months_of h) (sessions_of w h) (ended w h l.1)
 ended w (Listed n ∷ h) l = lists w h n l (ended w h l.1)

@@ -1,6 +1,6 @@
 -- The expiries of the listed months: each is a session day, and no session jumps over it.
 use Rattle.std.proofs.Common.{◌≡◌, ℕ, ◌+◌, ◌<◌, ◌≤◌, Bool, true, false, cond, eqb, leb, ◌⊎◌, List, [], ◌∷◌, ◌++◌, length, Some, None, Option, unwrap_or, sym, refl, ap, ◌∙◌, inl, inr, arith}
-use Rattle.std.specs.List.{AllByRecursion as All}
+use Rattle.std.specs.List.{AllByRecursion}
 use Rattle.std.proofs.ByRecursion.{All-get_or, All-push, All-weaker}
 use Rattle.std.proofs.lemmas.List.{append-nil, length-append, get_or_append_left}
 use Rattle.std.proofs.lemmas.Bool.{true≢false, eq-eqb, leb-true, or_cases, or_left, or_right, cases_order}
@@ -84,11 +84,11 @@ listed-later w h n l =
     by (Some x) expiry s d = omega arith
 
 -- an event that neither lists nor opens
-still : (w : World) (h : History) → All (Expires w (latest_opened h) (opened_days h)) (months_of h)
-    → All (Expires w (latest_opened h) (opened_days h ++ [])) (months_of h ++ [])
+still : (w : World) (h : History) → AllByRecursion (Expires w (latest_opened h) (opened_days h)) (months_of h)
+    → AllByRecursion (Expires w (latest_opened h) (opened_days h ++ [])) (months_of h ++ [])
 still w h a = rw (append-nil (opened_days h), append-nil (months_of h)) a
 
-expires : (w : World) (h : History) → Lawful w h → All (Expires w (latest_opened h) (opened_days h)) (months_of h)
+expires : (w : World) (h : History) → Lawful w h → AllByRecursion (Expires w (latest_opened h) (opened_days h)) (months_of h)
 expires w [] l = tt
 expires w (Entered x ∷ h) l = still w h (expires w h l.1)
 expires w (Listed n ∷ h) l =

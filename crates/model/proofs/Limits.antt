@@ -1,7 +1,7 @@
 -- No position passes 500,000 contracts.
 use Rattle.std.proofs.Common.{◌≡◌, ℕ, ◌<◌, ◌≤◌, Bool, true, false, cond, ◌&&◌, eqb, ltb, leb, ◌⊎◌, List, [], ◌∷◌, ◌++◌, length, get_or, ℤ, pos, ◌+ℤ◌, ◌-ℤ◌, nat_abs, sym, refl, ◌∙◌, subst, subst₂, inl, inr, arith}
 use borrow.Author.Differences.{ints}
-use Rattle.std.specs.List.{AllByRecursion as All}
+use Rattle.std.specs.List.{AllByRecursion}
 use Rattle.std.proofs.lemmas.List.{append-nil, length_push, get_or_append_left}
 use Rattle.std.proofs.lemmas.Bool.{cases_lt, eqb-true, lt-ltb, le-ltb, leb-false, lt-leb, and_left}
 use Rattle.pricing.specs.Pricing.{expiry_day}
@@ -55,7 +55,7 @@ unlisted : (w : World) (m : ℕ) (months : List ℕ) (ss : List Session) → len
 unlisted w m months ss le = and_left (ltb m (length months)) (has_reached (expiry_day w.kinds (get_or months m 0)) ss) (le-ltb m (length months) le)
 
 -- what is later than all sessions was not reached
-pub unreached : (d e : ℕ) (ss : List Session) → All (λ s. s.day < d) ss → d ≤ e → has_reached e ss ≡ false
+pub unreached : (d e : ℕ) (ss : List Session) → AllByRecursion (λ s. s.day < d) ss → d ≤ e → has_reached e ss ≡ false
 unreached d e [] f le = refl
 unreached d e (s ∷ ss) f le = let k = f.0 in lt-leb e s.day (omega arith)
 
@@ -81,7 +81,7 @@ module _ (w : World) (m : ℕ) (months : List ℕ) (ss : List Session) (raw : �
       by (inr le) = cond-within (expired_by w m (months ++ n ∷ []) ss) raw (held (unlisted w m months ss le))
 
   -- a session more, later than those before it
-  closing-within : (s : Session) → All (λ r. r.day < s.day) ss → Within (held_by w m (months ++ []) (s ∷ ss) raw)
+  closing-within : (s : Session) → AllByRecursion (λ r. r.day < s.day) ss → Within (held_by w m (months ++ []) (s ∷ ss) raw)
   closing-within s later =
       subst (λ ms. Within (held_by w m ms (s ∷ ss) raw)) (sym (append-nil months)) (by (expired_by w m months (s ∷ ss)) refl)
     where

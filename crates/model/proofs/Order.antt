@@ -1,6 +1,6 @@
 -- The order of the sessions: each is later than all before it, and the opened days are the closed sessions and the open one.
 use Rattle.std.proofs.Common.{◌≡◌, ℕ, ◌+◌, ◌<◌, true, eqb, leb, ◌⊎◌, List, [], ◌∷◌, ◌++◌, map, reverse, Some, None, Option, sym, refl, ap, ◌∙◌, subst, inl, inr, arith}
-use Rattle.std.specs.List.{AllByRecursion as All}
+use Rattle.std.specs.List.{AllByRecursion}
 use Rattle.std.proofs.ByRecursion.{All-push, All-weaker}
 use Rattle.std.proofs.lemmas.List.{append-nil, reverse-append}
 use Rattle.std.proofs.lemmas.Bool.{true≢false, eqb-true, le-leb, or_cases}
@@ -21,7 +21,7 @@ pub none≢some : {X : Type 0} {x : X} → ◌≡◌ {A = Option X} None (Some x
 none≢some e = let z : ◌≡◌ {A = ℕ} 0 1 = cc in omega arith
 
 -- what holds of one of the numbers of a list
-pub all_among : (P : ℕ → Type 0) (x : ℕ) (xs : List ℕ) → All P xs → is_among eqb x xs ≡ true → P x
+pub all_among : (P : ℕ → Type 0) (x : ℕ) (xs : List ℕ) → AllByRecursion P xs → is_among eqb x xs ≡ true → P x
 all_among P x [] a h = absurd (true≢false (sym h))
 all_among P x (y ∷ ys) a h =
     elim (or_cases (eqb x y) (is_among eqb x ys) h) [
@@ -33,12 +33,12 @@ all_among P x (y ∷ ys) a h =
 pub record InOrder (w : World) (days : List ℕ) (latest now : Option ℕ) (ss : List Session) : Type 0 where
   -- in order of time: the closed sessions, of which the newest comes first, and then the open one
   pub days-are : days ≡ reverse (map (λ s. s.day) ss) ++ list_of now
-  pub days-below : All (λ x. x < next_from w latest) days
-  pub closed-below : All (λ s. s.day < next_from w latest) ss
+  pub days-below : AllByRecursion (λ x. x < next_from w latest) days
+  pub closed-below : AllByRecursion (λ s. s.day < next_from w latest) ss
   pub falls : Falling ss
-  pub now-later : (d : ℕ) → now ≡ Some d → All (λ s. s.day < d) ss
+  pub now-later : (d : ℕ) → now ≡ Some d → AllByRecursion (λ s. s.day < d) ss
   -- an opened day that is not the open session has been reached by a close
-  pub reached : All (λ x. (has_reached x ss ≡ true) ⊎ (now ≡ Some x)) days
+  pub reached : AllByRecursion (λ x. (has_reached x ss ≡ true) ⊎ (now ≡ Some x)) days
   pub on-session : (d : ℕ) → latest ≡ Some d → is_session (w.kinds d) ≡ true
 
 opens : (w : World) (days : List ℕ) (latest : Option ℕ) (ss : List Session) (d to : ℕ)
@@ -103,7 +103,7 @@ pub falling : (w : World) (h : History) → Lawful w h → Falling (sessions_of 
 falling w h l = (in_order w h l).falls
 
 -- an open session is later than all that are closed
-pub open-later : (w : World) (h : History) (d : ℕ) → Lawful w h → open_session h ≡ Some d → All (λ r. r.day < d) (sessions_of w h)
+pub open-later : (w : World) (h : History) (d : ℕ) → Lawful w h → open_session h ≡ Some d → AllByRecursion (λ r. r.day < d) (sessions_of w h)
 open-later w h d l e = (in_order w h l).now-later d e
 
 pub sessions-rise : SessionsRise

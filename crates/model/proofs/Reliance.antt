@@ -1,7 +1,7 @@
 -- What the close of a session can rely on: positions, prices and the gap are small.
 use Rattle.std.proofs.Common.{◌≡◌, ℕ, ◌+◌, ◌-◌, ◌*◌, ◌^◌, ◌<◌, ◌≤◌, Bool, true, false, cond, eqb, List, [], ◌∷◌, ◌++◌, map, length, pos, ◌+ℤ◌, ◌-ℤ◌, nat_abs, Some, None, Option, unwrap_or, sym, refl, ap, ◌∙◌, subst, inl, inr, mul-le-mul_left, arith}
 use borrow.Author.Differences.{ints}
-use Rattle.std.specs.List.{range_with_len, AllByRecursion as All}
+use Rattle.std.specs.List.{range_with_len, AllByRecursion}
 use Rattle.std.proofs.lemmas.List.FromFn.{length-range_with_len}
 use Rattle.std.proofs.lemmas.List.{length-map}
 use Rattle.std.proofs.lemmas.List.Sums.{length-filter, count_by-le-length}
@@ -98,12 +98,12 @@ pub price-limited : (w : World) (h : History) → Lawful w h → (m : ℕ) → s
 price-limited w h l m =
     cond_both (eqb (session_day h) (expiry_at w h m)) 10000000 (unwrap_or (mark_of h m) 0) (λ p. p ≤ 10000000) (λ e. omega arith) (λ e. mark-limited w h l m)
 
-pub prices-limited : (w : World) (h : History) → Lawful w h → All (λ s. (m : ℕ) → s.prices m ≤ 10000000) (sessions_of w h)
+pub prices-limited : (w : World) (h : History) → Lawful w h → AllByRecursion (λ s. (m : ℕ) → s.prices m ≤ 10000000) (sessions_of w h)
 prices-limited w [] l = tt
 prices-limited w (e ∷ h) l = by (written e) (prices-limited w h l.1)
   where
-    by : (o : Option Amounts) → All (λ s. (m : ℕ) → s.prices m ≤ 10000000) (sessions_of w h)
-        → All (λ s. (m : ℕ) → s.prices m ≤ 10000000) (added w h o (sessions_of w h))
+    by : (o : Option Amounts) → AllByRecursion (λ s. (m : ℕ) → s.prices m ≤ 10000000) (sessions_of w h)
+        → AllByRecursion (λ s. (m : ℕ) → s.prices m ≤ 10000000) (added w h o (sessions_of w h))
     by None f = f
     by (Some c) f = (price-limited w h l.1, f)
 
@@ -155,7 +155,7 @@ gap-short w (Paid ∷ h) d l o = gap-short w h d l.1 o
 day-adds : (price g : ℕ) → price ≤ 20000000 → g ≤ 100275437 → corrected_day price g ≤ price + 55089
 day-adds price g p b = let m = mul-le-mul_left price b in omega arith
 
-days-add : (price : ℕ) (gs : List ℕ) → All (λ g. g ≤ 100275437) gs → price + 55089 * length gs ≤ 20000000
+days-add : (price : ℕ) (gs : List ℕ) → AllByRecursion (λ g. g ≤ 100275437) gs → price + 55089 * length gs ≤ 20000000
     → corrected price gs ≤ price + 55089 * length gs
 days-add price [] b p = rw (corrected-none price) (omega arith)
 days-add price (g ∷ gs) b p =
@@ -163,7 +163,7 @@ days-add price (g ∷ gs) b p =
     let k = days-add (corrected_day price g) gs b.1 (omega arith) in
     rw (corrected-first price g gs) (omega arith)
 
-pub corrected-small : (price : ℕ) (gs : List ℕ) → price ≤ 10000000 → All (λ g. g ≤ 100275437) gs → length gs ≤ 60 → corrected price gs ≤ 13305340
+pub corrected-small : (price : ℕ) (gs : List ℕ) → price ≤ 10000000 → AllByRecursion (λ g. g ≤ 100275437) gs → length gs ≤ 60 → corrected price gs ≤ 13305340
 corrected-small price gs p b n = let k = days-add price gs b (omega arith) in omega arith
 
 -- no rate is over 99,999,999
@@ -178,7 +178,7 @@ factor-small rates b d = by (rates d) refl
     by None e = day-factor-most 0 (omega arith)
     by (Some r) e = day-factor-most r (b d r e)
 
-factors-small : (rates : ℕ → Option ℕ) → RatesLimited rates → (days : List ℕ) → All (λ g. g ≤ 100275437) (factors rates days)
+factors-small : (rates : ℕ → Option ℕ) → RatesLimited rates → (days : List ℕ) → AllByRecursion (λ g. g ≤ 100275437) (factors rates days)
 factors-small rates b [] = tt
 factors-small rates b (d ∷ days) = (factor-small rates b d, factors-small rates b days)
 
@@ -187,7 +187,7 @@ pub corrected-fits : (w : World) (h : History) (d : ℕ) → Lawful w h → open
     → corrected_to w (rate_on w h) d (sessions_of w h) m < 2 ^ 32
 corrected-fits w h d l o b m = by (sessions_of w h) (prices-limited w h l) (gap-short w h d l o)
   where
-    by : (ss : List Session) → All (λ s. (m : ℕ) → s.prices m ≤ 10000000) ss → length (gap_to w d ss) ≤ 60 → corrected_to w (rate_on w h) d ss m < 2 ^ 32
+    by : (ss : List Session) → AllByRecursion (λ s. (m : ℕ) → s.prices m ≤ 10000000) ss → length (gap_to w d ss) ≤ 60 → corrected_to w (rate_on w h) d ss m < 2 ^ 32
     by [] p n = omega arith
     by (s ∷ ss) p n =
         let days = reserve_days w.kinds s.day d in

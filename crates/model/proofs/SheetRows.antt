@@ -1,6 +1,6 @@
 -- The rows of an import and of a written sheet, against the faults of reading and writing.
 use Rattle.std.proofs.Common.{◌≡◌, ℕ, suc, ◌+◌, ◌*◌, ◌<◌, ◌≤◌, Bool, true, false, cond, not, ◌&&◌, ◌||◌, eqb, ltb, leb, List, [], ◌∷◌, length, get_or, Some, Decides, sym, refl, ◌∙◌, ap₂, arith}
-use Rattle.std.specs.List.{range_with_len, AllByRecursion as All}
+use Rattle.std.specs.List.{range_with_len, AllByRecursion}
 use Rattle.std.proofs.lemmas.List.FromFn.{length-range_with_len, get_or-range_with_len}
 use Rattle.std.proofs.ByRecursion.{All-get_or, All-from_get_or, Decides-by_and}
 use Rattle.std.proofs.lemmas.Bool.{true≢false, leb-true, le-leb, lt-ltb, le-ltb}
@@ -38,7 +38,7 @@ decides-code bytes =
     Decides-and (leb (month_of bytes) last_month) (same_bytes bytes (code_bytes (month_of bytes)))
     (decides-leb (month_of bytes) last_month) (decides-same bytes (code_bytes (month_of bytes)))
 
-decides-each : {X : Type 0} (p : X → Bool) (P : X → Type 0) → ((x : X) → Decides (p x) (P x)) → (xs : List X) → Decides (is_each p xs) (All P xs)
+decides-each : {X : Type 0} (p : X → Bool) (P : X → Type 0) → ((x : X) → Decides (p x) (P x)) → (xs : List X) → Decides (is_each p xs) (AllByRecursion P xs)
 decides-each p P each xs = Decides-by_and p P (is_each p) each refl (λ _ _. refl) xs
 
 -- each of the numbers below n, by the list of them

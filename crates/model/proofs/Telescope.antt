@@ -2,7 +2,7 @@
 use Rattle.std.proofs.Common.{◌≡◌, ℕ, ◌+◌, ◌*◌, ◌^◌, ◌<◌, ◌≤◌, cond, List, [], ◌∷◌, length, ℤ, pos, ◌+ℤ◌, ◌-ℤ◌, ◌*ℤ◌, nat_abs, sum_by, Option, sym, refl, ap, ◌∙◌, subst, mul_assoc, mul_comm, mul-le-mul_left, arith}
 use lib.IntN.{+ℤ_idr, zero-*ℤ}
 use borrow.Author.Differences.{ints}
-use Rattle.std.specs.List.{AllByRecursion as All}
+use Rattle.std.specs.List.{AllByRecursion}
 use Rattle.std.proofs.ByRecursion.{All-weaker}
 use Rattle.std.proofs.lemmas.List.{length-map}
 use Rattle.std.proofs.lemmas.List.Sums.{sum_by-append}
@@ -82,7 +82,7 @@ module _ (a m : ℕ) where
 regroup : (f b g x : ℤ) → f *ℤ (b *ℤ g) +ℤ x *ℤ g ≡ (f *ℤ b +ℤ x) *ℤ g
 regroup f b g x = simp expands (omega (arith, sums))
 
-total-on : (f : Session → ℤ) (scale further : ℕ → ℕ) (g : ℕ) (ss : List Session) → All (λ s. further s.day ≡ scale s.day * g) ss
+total-on : (f : Session → ℤ) (scale further : ℕ → ℕ) (g : ℕ) (ss : List Session) → AllByRecursion (λ s. further s.day ≡ scale s.day * g) ss
     → total (λ s. f s *ℤ pos (further s.day)) ss ≡ total (λ s. f s *ℤ pos (scale s.day)) ss *ℤ pos g
 total-on f scale further g [] h = sym (zero-*ℤ (pos g))
 total-on f scale further g (s ∷ ss) h =
@@ -91,7 +91,7 @@ total-on f scale further g (s ∷ ss) h =
     ∙ regroup (f s) (pos (scale s.day)) (pos g) (total (λ s. f s *ℤ pos (scale s.day)) ss)
 
 -- ---- sessions up to a day
-pub all-kept : (d : ℕ) (ss : List Session) → All (λ s. s.day ≤ d) ss → up_to d ss ≡ ss
+pub all-kept : (d : ℕ) (ss : List Session) → AllByRecursion (λ s. s.day ≤ d) ss → up_to d ss ≡ ss
 all-kept d [] h = refl
 all-kept d (s ∷ ss) h =
     ap (λ b. cond b (s ∷ up_to d ss) (up_to d ss)) (le-leb s.day d h.0) ∙ ap (λ xs. s ∷ xs) (all-kept d ss h.1)
@@ -104,7 +104,7 @@ oldest-first s [] f = omega arith
 oldest-first s (r ∷ ss) f = let o = oldest-first r ss f.1 in let l = f.0.0 in omega arith
 
 -- the sessions before are not later
-up-to : (s : Session) (ss : List Session) → Falling (s ∷ ss) → All (λ r. r.day ≤ s.day) (s ∷ ss)
+up-to : (s : Session) (ss : List Session) → Falling (s ∷ ss) → AllByRecursion (λ r. r.day ≤ s.day) (s ∷ ss)
 up-to s ss f = (omega arith, All-weaker (λ r. r.day < s.day) (λ r. r.day ≤ s.day) (λ r l. omega arith) ss f.0)
 
 -- ---- one session more
@@ -237,7 +237,7 @@ module _ (w : World) (rates : ℕ → Option ℕ) (a m : ℕ) where
         let y = cost_over a m (scale s.day) (s ∷ ss) in
         let cell : r.amounts.adjustments a m ≡ t *ℤ pos p' -ℤ c *ℤ pos 1 +ℤ q *ℤ (pos p' -ℤ pos corrected) =
         h ∙ ap (λ z. z +ℤ gain_of q p' corrected) (on-trades a m p' r.trades) ∙ ap (λ z. t *ℤ pos p' -ℤ c *ℤ pos 1 +ℤ z) (on-carried q p' corrected) in
-        let scaled : All (λ x. scale r.day x.day ≡ scale s.day x.day * g) (s ∷ ss) =
+        let scaled : AllByRecursion (λ x. scale r.day x.day ≡ scale s.day x.day * g) (s ∷ ss) =
         All-weaker (λ x. x.day ≤ s.day) (λ x. scale r.day x.day ≡ scale s.day x.day * g)
         (λ x b. scale-on w.kinds rates first s.day r.day x.day b later) (s ∷ ss) (up-to s ss f.1) in
         let sum = total-on (λ x. x.amounts.adjustments a m) (scale s.day) (scale r.day) g (s ∷ ss) scaled in

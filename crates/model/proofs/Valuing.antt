@@ -1,7 +1,7 @@
 -- Lawful closes settle by the rules, session after session; so the second claim holds of every lawful history.
 use Rattle.std.proofs.Common.{◌≡◌, ℕ, ◌<◌, ◌≤◌, Bool, true, false, cond, ◌&&◌, leb, List, [], ◌∷◌, length, pos, ◌-ℤ◌, ◌*ℤ◌, nat_abs, None, Option, sym, refl, ap, ◌∙◌, arith}
 use borrow.Author.Differences.{ints}
-use Rattle.std.specs.List.{AllByRecursion as All}
+use Rattle.std.specs.List.{AllByRecursion}
 use Rattle.std.proofs.ByRecursion.{All-weaker}
 use Rattle.std.proofs.lemmas.List.{length-append}
 use Rattle.std.proofs.lemmas.Bool.{ltb-true, leb-true}
@@ -55,7 +55,7 @@ module _ (w : World) (a m expiry : ℕ) where
   )
 
   -- all sessions up to the expiry
-  ruled : (rates : ℕ → Option ℕ) (ss : List Session) → All (λ s. s.day ≤ expiry) ss → AllRightly rates ss → Ruled w rates a m ss
+  ruled : (rates : ℕ → Option ℕ) (ss : List Session) → AllByRecursion (λ s. s.day ≤ expiry) ss → AllRightly rates ss → Ruled w rates a m ss
   ruled rates [] b h = tt
   ruled rates (s ∷ ss) b h = (h.0.adjusted b.0, ruled rates ss b.1 h.1)
 
@@ -77,7 +77,7 @@ module _ (w : World) (a m expiry : ℕ) where
 
 -- the month has not expired before the close of a session up to its expiry
 unexpired : (w : World) (h : History) (m expiry : ℕ) → (m < length (months_of h) → expiry_at w h m ≡ expiry)
-    → All (λ r. r.day < session_day h) (sessions_of w h) → session_day h ≤ expiry → has_ended w h m ≡ false
+    → AllByRecursion (λ r. r.day < session_day h) (sessions_of w h) → session_day h ≤ expiry → has_ended w h m ≡ false
 unexpired w h m expiry is before b = by (is_listed h m) refl
   where
     by : (t : Bool) → is_listed h m ≡ t → (t && has_reached (expiry_at w h m) (sessions_of w h)) ≡ false

@@ -1,6 +1,6 @@
 -- Laws of lawful histories.
 use Rattle.std.specs.Prelude.{◌≡◌, ℕ, ◌+◌, ◌<◌, ◌≤◌, true, false, [], ◌∷◌, ◌++◌, length, pos, ◌+ℤ◌, is_some, Some, None, nat_eq, unsigned_abs}
-use Rattle.std.specs.List.{AllByRecursion as All}
+use Rattle.std.specs.List.{AllByRecursion}
 use Rattle.calendar.specs.Kinds.{is_session}
 use Rattle.calendar.specs.Spans.{reserve_days, First}
 use Rattle.correction.specs.Gaps.{first_unrated}
@@ -17,7 +17,7 @@ use Rattle.model.specs.World.{World}
 -- a session that is opened is later than all before it, and the first session day since the latest, or from the start day on
 abbrev pub SessionsRise : Type 0
 SessionsRise = (w : World) (h : History) (d : ℕ) → Lawful w (Opened d ∷ h)
-    → All (λ x. x < d) (opened_days h)
+    → AllByRecursion (λ x. x < d) (opened_days h)
     × First w.kinds (next_from w (latest_opened h)) (next_from w (latest_opened h) + 60) (Some d)
 
 -- a rate once known stays, whatever happens
@@ -57,7 +57,7 @@ ClosesPaid = (w : World) (h : History) (c : Amounts) → Lawful w (Closed c ∷ 
 
 -- until an unpaid close is paid, and so for ever where its slip was written off, nothing closes and what is due stays
 abbrev pub UnpaidStays : Type 0
-UnpaidStays = (w : World) (k h : History) → Lawful w (k ++ h) → is_some (newest written (since is_payment h)) ≡ true → All (λ e. is_payment e ≡ false) k
+UnpaidStays = (w : World) (k h : History) → Lawful w (k ++ h) → is_some (newest written (since is_payment h)) ≡ true → AllByRecursion (λ e. is_payment e ≡ false) k
     → (gather written k ≡ []) × ((a : ℕ) → due_of (k ++ h) a ≡ due_of h a)
 
 -- a payment pays what the latest close wrote, and nothing else

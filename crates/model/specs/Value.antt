@@ -5,7 +5,7 @@
 --     ≤ 10 × Σ over the reserve days d from first, included, to last, excluded, of the contracts held on d × scale (d + 1)
 -- Factors are by the rates as they are now: each of these days has one, and a rate once known stays (Laws).
 use Rattle.std.specs.Prelude.{◌≡◌, ℕ, ◌+◌, ◌*◌, ◌^◌, ◌<◌, ◌≤◌, List, length, ℤ, pos, ◌-ℤ◌, ◌*ℤ◌, sum_by, Option, unsigned_abs}
-use Rattle.std.specs.List.{AllByRecursion as All}
+use Rattle.std.specs.List.{AllByRecursion}
 use Rattle.calendar.specs.declared.kind.DayKind.{DayKind}
 use Rattle.calendar.specs.Spans.{reserve_days}
 use Rattle.correction.specs.Gaps.{factors}
@@ -56,7 +56,7 @@ pub record Valued (w : World) (h : History) : Type 0 where
   -- of each account and listed month, over the closed sessions up to the month's expiry
   pub near : (a m : ℕ) → m < length (months_of h) → NearFrom w (rate_on w h) (oldest_day 0 (sessions_of w h)) a m (up_to (expiry_at w h m) (sessions_of w h))
   -- after the expiry all adjustments are 0
-  pub over : (a m : ℕ) → m < length (months_of h) → All (λ s. expiry_at w h m < s.day → s.amounts.adjustments a m ≡ pos 0) (sessions_of w h)
+  pub over : (a m : ℕ) → m < length (months_of h) → AllByRecursion (λ s. expiry_at w h m < s.day → s.amounts.adjustments a m ≡ pos 0) (sessions_of w h)
 
 abbrev pub AlwaysValued : Type 0
 AlwaysValued = (w : World) (h : History) → Lawful w h → Valued w h

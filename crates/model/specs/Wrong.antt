@@ -1,6 +1,6 @@
 -- Books that balance and are wrong: the second claim fails of each.
 use Rattle.std.specs.Prelude.{◌<◌, List, [], ◌∷◌, ℤ, pos, neg_ℤ}
-use Rattle.std.specs.List.{AllByRecursion as All}
+use Rattle.std.specs.List.{AllByRecursion}
 use Rattle.model.specs.Balance.{Balanced}
 use Rattle.model.specs.Examples.{book_over, client, deal, both, distance_of, tolerance_of}
 use Rattle.model.specs.History.{History, Entered, Listed, Published, Opened, Traded, Marked, Closed, Paid}
@@ -66,6 +66,6 @@ pub record WrongCaught : Type 0 where
   -- the first claim holds whatever the closes wrote
   pub balanced : (x y : ℤ) → Balanced (wrong_history x y)
   -- all the wrong amounts are too far off
-  pub caught : All TooFar wrong_amounts
+  pub caught : AllByRecursion TooFar wrong_amounts
   -- so the second claim fails of each
-  pub broken : All (λ p. Valued wrong_world (book_of p) → ⊥) wrong_amounts
+  pub broken : AllByRecursion (λ p. Valued wrong_world (book_of p) → ⊥) wrong_amounts

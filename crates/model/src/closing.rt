@@ -41,7 +41,7 @@ fn corrected_price<C: Calendar, S: RateSource>(
     latest: Option<Settled>,
     day: u32,
 ) -> Result<u64, Uncorrected>
-    ensures { MatchResult result (λ p. Correctable (kinds calendar.now) (rates source.now) latest day × (p ≡ corrected_in (kinds calendar.now) (rates source.now) latest day)) (Uncorrectable (kinds calendar.now) (rates source.now) latest day) }
+    ensures { MatchResult result (λ p. Correctable (C.kinds calendar.now) (S.rates source.now) latest day × (p ≡ corrected_in (C.kinds calendar.now) (S.rates source.now) latest day)) (Uncorrectable (C.kinds calendar.now) (S.rates source.now) latest day) }
 {
     match latest {
         None => Ok(0),
@@ -71,7 +71,7 @@ fn adjusted<C: Calendar, S: RateSource>(
     month: u8,
     position: i32,
 ) -> Result<i64, Unsettled>
-    ensures { Computed (kinds calendar.now) (rates source.now) close trades.now account month position result }
+    ensures { Computed (C.kinds calendar.now) (S.rates source.now) close trades.now account month position result }
 {
     let corrected = match corrected_price(calendar, source, close.latest, close.day) {
         Ok(price) => price,
@@ -100,8 +100,8 @@ pub fn settle<C: Calendar, S: RateSource>(
     month: u8,
     position: i32,
 ) -> Result<i64, Unsettled>
-    ensures computed { Computed (kinds calendar.now) (rates source.now) close trades.now account month position result }
-    ensures settled { Answers (kinds calendar.now) (rates source.now) close trades.now account month position result }
+    ensures computed { Computed (C.kinds calendar.now) (S.rates source.now) close trades.now account month position result }
+    ensures settled { Answers (C.kinds calendar.now) (S.rates source.now) close trades.now account month position result }
     ensures balanced { AlwaysBalanced }
     ensures valued { AlwaysValued }
 {

@@ -1,7 +1,7 @@
 -- How great positions and amounts can be.
 use Rattle.std.proofs.Common.{ℕ, ◌*◌, ◌^◌, ◌<◌, ◌≤◌, Bool, true, false, cond, ◌&&◌, eqb, List, length, nat_abs, arith}
 use borrow.Author.Differences.{ints}
-use Rattle.std.specs.List.{AllByRecursion as All}
+use Rattle.std.specs.List.{AllByRecursion}
 use Rattle.std.proofs.ByRecursion.{All-weaker}
 use Rattle.settlement.specs.declared.trades.Side.{Side}
 use Rattle.settlement.specs.declared.trades.Side.TheVariants.{Bought, Sold}
@@ -28,7 +28,7 @@ change-size account month ts l =
     (λ t h. let s = contracts-size account month t in omega arith) ts l.small)
 
 -- 20,000 contracts over less than 2 ^ 32 centavos, for each trade
-pub trades-size : (account month price : ℕ) (ts : List Trade) → price < 2 ^ 32 → All (λ t. (t.quantity ≤ 20000) × (t.price < 2 ^ 32)) ts
+pub trades-size : (account month price : ℕ) (ts : List Trade) → price < 2 ^ 32 → AllByRecursion (λ t. (t.quantity ≤ 20000) × (t.price < 2 ^ 32)) ts
     → nat_abs (on_trades account month price ts) ≤ length ts * 85899345920000
 unfolding on_trades
 trades-size account month price ts p small =

@@ -2,7 +2,7 @@
 use Rattle.std.proofs.Common.{◌≡◌, ℕ, ◌+◌, ◌*◌, ◌<◌, ◌≤◌, List, [], ◌∷◌, ◌++◌, reverse, length, get_or, drop, ℤ, pos, ◌+ℤ◌, ◌-ℤ◌, ◌*ℤ◌, nat_abs, sym, refl, ap, ◌∙◌, arith}
 use lib.IntN.{zero-*ℤ}
 use borrow.Author.Differences.{ints}
-use Rattle.std.specs.List.{AllByRecursion as All}
+use Rattle.std.specs.List.{AllByRecursion}
 use Rattle.std.proofs.lemmas.List.{at_drop_more, at_drop_all, reverse-append}
 use Rattle.settlement.specs.Sums.{total}
 use Rattle.interest.proofs.Ring.{dist-r}
@@ -24,7 +24,7 @@ module _ {X : Type 0} (f : X → ℤ) where
   pub total-end : (xs : List X) (i : ℕ) → length xs ≤ i → total f (drop i xs) ≡ pos 0
   total-end xs i h = at_drop_all (total f) xs i h
 
-  pub total_size : (m : ℕ) (xs : List X) → All (λ x. nat_abs (f x) ≤ m) xs → nat_abs (total f xs) ≤ length xs * m
+  pub total_size : (m : ℕ) (xs : List X) → AllByRecursion (λ x. nat_abs (f x) ≤ m) xs → nat_abs (total f xs) ≤ length xs * m
   total_size m [] h = omega arith
   total_size m (x ∷ xs) h = omega (arith, ints, h.0, total_size m xs h.1)
 

@@ -1,6 +1,6 @@
 -- The contracts of an account in the trades of a session, with sides in price.
 use Rattle.std.specs.Prelude.{ℕ, ◌≤◌, cond, ◌&&◌, List, length, ℤ, pos, ◌-ℤ◌, ◌==◌}
-use Rattle.std.specs.List.{AllByRecursion as All}
+use Rattle.std.specs.List.{AllByRecursion}
 use Rattle.settlement.specs.declared.trades.Side.{Side}
 use Rattle.settlement.specs.declared.trades.Side.TheVariants.{Bought, Sold}
 use Rattle.settlement.specs.declared.trades.Trade.{Trade}
@@ -26,4 +26,4 @@ position_change account month ts = total (contracts_of account month) ts
 -- at most 256 trades, of at most 20,000 contracts each
 pub record Limited (ts : List Trade) : Type 0 where
   pub few : length ts ≤ 256
-  pub small : All (λ t. t.quantity ≤ 20000) ts
+  pub small : AllByRecursion (λ t. t.quantity ≤ 20000) ts

@@ -1,7 +1,7 @@
 -- Numbers as bytes, the lowest first, and back; parts of a list of bytes. Assumes nothing.
 use Rattle.std.proofs.Common.{◌≡◌, ℕ, zero, suc, ◌+◌, ◌-◌, ◌*◌, ◌/◌, ◌%◌, ◌^◌, ◌<◌, ◌≤◌, List, [], ◌∷◌, ◌++◌, map, length, get_or, take, drop, sym, refl, ap, ◌∙◌, subst, pow-suc, arith, take-add}
 use lib.Lanes.{chunk}
-use Rattle.std.specs.List.{range_with_len, AllByRecursion as All}
+use Rattle.std.specs.List.{range_with_len, AllByRecursion}
 use Rattle.std.proofs.lemmas.List.FromFn.{fill_by_all}
 use Rattle.std.proofs.lemmas.Nat.{div_below}
 use Rattle.std.proofs.lemmas.List.{drop_at, drop-drop, take-take, drop-take}
@@ -17,7 +17,7 @@ number-little (suc k) n h =
     let e = number-little k (n / 256) (div_below n 256 (256 ^ k) (omega arith) (rw pow-suc at h)) in
     rw e (omega arith)
 
-pub little-number : (bs : List ℕ) → All (λ b. b < 256) bs → little (length bs) (number bs) ≡ bs
+pub little-number : (bs : List ℕ) → AllByRecursion (λ b. b < 256) bs → little (length bs) (number bs) ≡ bs
 little-number [] h = refl
 little-number (b ∷ bs) h =
     let l : b < 256 = h.0 in
@@ -26,7 +26,7 @@ little-number (b ∷ bs) h =
     let e = little-number bs h.1 in
     rw (m, d, e)
 
-pub number-below : (bs : List ℕ) → All (λ b. b < 256) bs → number bs < 256 ^ length bs
+pub number-below : (bs : List ℕ) → AllByRecursion (λ b. b < 256) bs → number bs < 256 ^ length bs
 number-below [] h = omega arith
 number-below (b ∷ bs) h = let l : b < 256 = h.0 in omega (arith, number-below bs h.1, pow-suc 256 (length bs))
 

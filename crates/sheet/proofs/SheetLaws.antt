@@ -2,7 +2,7 @@
 use Rattle.std.proofs.Common.{◌≡◌, ℕ, ◌+◌, ◌-◌, ◌*◌, ◌^◌, ◌<◌, ◌≤◌, List, [], ◌++◌, length, get_or, take, drop, Some, None, sym, refl, ap, ◌∙◌, subst, append_assoc, arith}
 use borrow.Rule.Slice.PartMut.{put_mid}
 use lib.Lanes.{chunk}
-use Rattle.std.specs.List.{flat_map, AllByRecursion as All, slice_get}
+use Rattle.std.specs.List.{flat_map, AllByRecursion, slice_get}
 use Rattle.std.proofs.lemmas.List.FromFn.{fill_by_all, length-map-range_with_len, get_or-map-range_with_len}
 use Rattle.std.proofs.ByRecursion.{All-take, All-drop, All-get_or, All-from_get_or}
 use Rattle.std.proofs.lemmas.Simd.{length-chunk, chunk-drop}
@@ -17,7 +17,7 @@ use Rattle.sheet.proofs.Rows.{length-joined, row-joined, joined-rows, part-more,
 
 -- bytes
 abbrev pub Bytes : List ℕ → Type 0
-Bytes b = All (λ x. x < 256) b
+Bytes b = AllByRecursion (λ x. x < 256) b
 
 bytes-chunk : (a k : ℕ) (b : List ℕ) → Bytes b → Bytes (chunk a k b)
 bytes-chunk a k b h = All-take (λ x. x < 256) k (drop a b) (All-drop (λ x. x < 256) a b h)
@@ -234,7 +234,7 @@ module _ (b : List ℕ) (bytes : Bytes b) (s : Sheet b) where
       All-get_or (λ x. x < 256) (sides_at b i) j 0 (omega arith) (bytes-chunk (4 + 2 * i) 2 b bytes)
 
   -- what holds of the trade of each line
-  each_line : (P : Trade → Type 0) → ((i : ℕ) → i < n → P (trade_from (sides_at b i) (terms_at n b i))) → All P (trades_of b)
+  each_line : (P : Trade → Type 0) → ((i : ℕ) → i < n → P (trade_from (sides_at b i) (terms_at n b i))) → AllByRecursion P (trades_of b)
   each_line P h =
       let d = blank in
       All-from_get_or P (trades_of b) d (λ i l. let k : i < n = omega (arith, length-trades) in subst P (sym (get_or-lines n b i d k)) (h i k))

@@ -1,7 +1,7 @@
 -- The trade sheet and its bytes. Assumes nothing.
 use Rattle.std.specs.Prelude.{◌≡◌, ℕ, ◌+◌, ◌*◌, ◌^◌, ◌<◌, ◌≤◌, List, [], ◌∷◌, ◌++◌, map, length, take, Some, None, Option, ◌≢◌, slice_index}
 use Rattle.std.specs.Simd.Lanes.{number_l, digits_l, chunk}
-use Rattle.std.specs.List.{range_with_len, flat_map, AllByRecursion as All}
+use Rattle.std.specs.List.{range_with_len, flat_map, AllByRecursion}
 use Rattle.sheet.specs.declared.trade.Trade.{Trade}
 use Rattle.sheet.specs.declared.trade.SheetFault.{SheetFault}
 use Rattle.sheet.specs.declared.trade.SheetFault.TheVariants.{Length, Count, Day, Code}
@@ -35,7 +35,7 @@ most_trades = 256
 
 -- the trades make a sheet: few enough, and each in a month that has a code
 abbrev pub Listable : List Trade → Type 0
-Listable trades = (length trades ≤ most_trades) × All (λ t. t.month ≤ last_month) trades
+Listable trades = (length trades ≤ most_trades) × AllByRecursion (λ t. t.month ≤ last_month) trades
 
 -- each field of a trade fits its bytes
 abbrev pub FitsLine : Trade → Type 0
@@ -43,7 +43,7 @@ FitsLine t = (t.buyer < 256) × (t.seller < 256) × (t.rate < 2 ^ 32) × (t.quan
 
 -- a sheet: its day fits two bytes, its trades make a sheet, and each fits its line
 abbrev pub Valid : ℕ → List Trade → Type 0
-Valid day trades = (day < 2 ^ 16) × Listable trades × All FitsLine trades
+Valid day trades = (day < 2 ^ 16) × Listable trades × AllByRecursion FitsLine trades
 
 -- what the bytes of a sheet say
 abbrev pub count_of : List ℕ → ℕ

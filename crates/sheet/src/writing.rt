@@ -1,6 +1,6 @@
 // A trade sheet written into an array.
 ghost use Rattle.std.specs.Prelude.{◌≡◌, ◌+◌, ◌*◌, ◌<◌, ◌≤◌, true, ◌++◌, length, drop, Decides, MatchResult};
-ghost use Rattle.std.specs.List.{flat_map, AllByRecursion as All};
+ghost use Rattle.std.specs.List.{flat_map, AllByRecursion};
 ghost use Rattle.sheet.specs.Codes.{last_month};
 ghost use Rattle.sheet.specs.Sheet.{sides, terms, sheet_bytes, FitsLine, Valid, Unwritten};
 
@@ -38,8 +38,8 @@ fn is_short(room: usize, count: usize) -> bool
 
 // Whether the month of each trade has a code.
 fn are_coded(trades: &[Trade]) -> bool
-    ensures coded { Decides result (All (λ t. t.month ≤ last_month) trades.now) }
-    ensures fits { result ≡ true → All FitsLine trades.now }
+    ensures coded { Decides result (AllByRecursion (λ t. t.month ≤ last_month) trades.now) }
+    ensures fits { result ≡ true → AllByRecursion FitsLine trades.now }
 {
     for trade in trades {
         if !is_coded(*trade) {
@@ -72,7 +72,7 @@ fn write_sides(trades: &[Trade], out: &mut [u8])
 // Writes the terms of each trade, one after the other.
 fn write_terms(trades: &[Trade], out: &mut [u8])
     requires room { length out.old ≡ 14 * length trades.now }
-    requires coded { All (λ t. t.month ≤ last_month) trades.now }
+    requires coded { AllByRecursion (λ t. t.month ≤ last_month) trades.now }
     ensures { out.new ≡ flat_map terms trades.now }
 {
     for line in 0..trades.len() {

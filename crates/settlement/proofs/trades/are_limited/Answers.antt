@@ -1,5 +1,5 @@
 use Rattle.std.proofs.Common.{◌≤◌, refl, subst, arith}
-use Rattle.std.specs.List.{AllByRecursion as All}
+use Rattle.std.specs.List.{AllByRecursion}
 use Rattle.std.proofs.ByRecursion.{All-more}
 use Rattle.std.proofs.lemmas.List.{take_all}
 use Rattle.settlement.specs.declared.trades.Trade.{Trade}
@@ -25,4 +25,4 @@ loop-trade-preserved c =
 pub returns : goal.returns
 returns c =
     let e = take_all c.loop-trade.trade-index c.args.trades.now c.loop-trade-test.false in
-    (λ _. record { few = c.if-trades-gt-MOST_TRADES.false; small = subst (All Small) e c.loop-trade.invariant }, λ _. refl)
+    (λ _. record { few = c.if-trades-gt-MOST_TRADES.false; small = subst (AllByRecursion Small) e c.loop-trade.invariant }, λ _. refl)

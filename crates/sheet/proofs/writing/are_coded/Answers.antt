@@ -3,7 +3,7 @@ use Rattle.std.proofs.ByRecursion.{All-get_or, All-more}
 use Rattle.std.proofs.lemmas.List.{take_all}
 use Rattle.std.proofs.lemmas.Bool.{false≢true}
 use Rattle.std.proofs.lemmas.Bool.Decides.{not_from_Decides}
-use Rattle.std.specs.List.{AllByRecursion as All}
+use Rattle.std.specs.List.{AllByRecursion}
 use Rattle.sheet.specs.Codes.{last_month}
 use Rattle.sheet.specs.Sheet.{FitsLine}
 use Rattle.sheet.proofs.SheetLaws.{blank}
@@ -32,6 +32,6 @@ pub returns : goal.returns
 returns c =
     let e = take_all c.loop-trade.trade-index c.args.trades.now c.loop-trade-test.false in
     record {
-      coded = (λ _. subst (All (λ t. t.month ≤ last_month)) e c.loop-trade.invariant.0, λ _. refl);
-      fits = λ _. subst (All FitsLine) e c.loop-trade.invariant.1;
+      coded = (λ _. subst (AllByRecursion (λ t. t.month ≤ last_month)) e c.loop-trade.invariant.0, λ _. refl);
+      fits = λ _. subst (AllByRecursion FitsLine) e c.loop-trade.invariant.1;
     }
