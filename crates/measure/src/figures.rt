@@ -4,26 +4,16 @@ use interest::{day_factor, trade_price};
 
 // The sum of so many prices.
 pub(crate) fn prices(count: u32) -> u64 {
-    let mut numbers = Numbers::new();
-    let mut sum: u64 = 0;
-    for _ in 0..count {
+    Numbers::new().sum(count, |numbers| {
         let rate = numbers.below(100_000);
         let days = numbers.below(2_521);
-        if let Ok(price) = trade_price(rate, days) {
-            sum = sum.wrapping_add(price as u64);
-        }
-    }
-    sum
+        trade_price(rate, days).map_or(0, u64::from)
+    })
 }
 
 // The sum of so many day factors.
 pub(crate) fn factors(count: u32) -> u64 {
-    let mut numbers = Numbers::new();
-    let mut sum: u64 = 0;
-    for _ in 0..count {
-        if let Some(factor) = day_factor(numbers.di_rate()) {
-            sum = sum.wrapping_add(factor as u64);
-        }
-    }
-    sum
+    Numbers::new().sum(count, |numbers| {
+        day_factor(numbers.di_rate()).map_or(0, u64::from)
+    })
 }

@@ -1,7 +1,7 @@
 // Prices corrected over gaps of five days, added up.
 use crate::numbers::Numbers;
 use calendar::rule::RuleCalendar;
-use correction::correct;
+use correction::{Gap, correct};
 use rates::table::TableSource;
 use std::alloc::{AllocError, Global};
 
@@ -12,10 +12,9 @@ const DAYS: u32 = 2_000;
 
 // A rate for every day of the table.
 fn table(heap: Global, numbers: &mut Numbers) -> Result<TableSource, AllocError> {
-    let mut entries = Vec::new(heap);
-    for _ in 0..DAYS {
-        entries.push(1 + numbers.below(30_000_000))?;
-    }
+    let entries = (0..DAYS)
+        .map(|_| 1 + numbers.below(30_000_000))
+        .collect(heap)?;
     Ok(TableSource::new(FIRST, entries))
 }
 
@@ -24,13 +23,14 @@ pub(crate) fn corrections(heap: Global, count: u32) -> Result<u64, AllocError> {
     let mut numbers = Numbers::new();
     let calendar = RuleCalendar::new(heap, &[])?;
     let source = table(heap, &mut numbers)?;
-    let mut sum: u64 = 0;
-    for _ in 0..count {
+    Ok(numbers.sum(count, |numbers| {
         let from = FIRST + numbers.below(DAYS - 5);
         let price = 1 + numbers.below(10_000_000);
-        if let Ok(corrected) = correct(&calendar, &source, from, from + 5, price) {
-            sum = sum.wrapping_add(corrected);
-        }
-    }
-    Ok(sum)
+        let gap = Gap {
+            from,
+            to: from + 5,
+            price,
+        };
+        correct(&calendar, &source, gap).unwrap_or(0)
+    }))
 }

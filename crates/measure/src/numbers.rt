@@ -29,6 +29,17 @@ impl Numbers {
         (self.step() >> 8) % bound
     }
 
+    // The sum of so many numbers, each made from the next ones of the generator.
+    pub(crate) fn sum<F: FnMut(&mut Numbers) -> u64>(&mut self, count: u32, mut make: F) -> u64
+        requires { F.IsAlwaysCallable make }
+    {
+        let mut sum: u64 = 0;
+        for _ in 0..count {
+            sum = sum.wrapping_add(make(self));
+        }
+        sum
+    }
+
     // A DI rate, in millionths of a percent.
     pub(crate) fn di_rate(&mut self) -> u32 {
         (self.step() >> 2) % 100_000_000

@@ -1,5 +1,8 @@
 // Trade sheets written, read back and priced.
+ghost use Rattle.std.specs.Prelude.{◌≤◌};
+
 use crate::numbers::Numbers;
+use calendar::kind::DayKind;
 use calendar::rule::{Exception, RuleCalendar};
 use pricing::price_trade;
 use sheet::{SheetView, Trade, read, write};
@@ -9,19 +12,8 @@ use std::fmt;
 // The session of every sheet: 30 December 2026.
 const SESSION: u16 = 9_860;
 
-// The bytes of the longest sheet.
-const ROOM: usize = 4 + 16 * 256;
-
-const NO_TRADE: Trade = Trade {
-    buyer: 0,
-    seller: 0,
-    month: 0,
-    rate: 0,
-    quantity: 0,
-};
-
 // Lines, priced lines, and the sum of the prices and of the buyers in price, with 1 for a line that is not priced.
-#[derive(Clone, Copy)]
+#[derive(Clone, Copy, Default)]
 pub struct Total {
     lines: u64,
     priced: u64,
@@ -56,62 +48,49 @@ impl Total {
 
     // Adds every line of a sheet.
     fn add_sheet(&mut self, calendar: &RuleCalendar, view: &SheetView<'_>) {
-        for line in 0..view.count() {
-            if let Some(trade) = view.trade(line) {
-                self.add(calendar, trade);
-            }
+        for trade in view.trades() {
+            self.add(calendar, trade);
         }
     }
 }
 
-// Makes a trade at each place.
-fn fill(trades: &mut [Trade], numbers: &mut Numbers) {
-    for trade in trades.iter_mut() {
-        *trade = numbers.trade();
-    }
+// How many lines the next sheet has.
+fn line_count(numbers: &mut Numbers) -> u32
+    ensures { result ≤ 256 }
+{
+    1 + numbers.below(256)
 }
 
-// Writes these trades into the array, and adds the sheet as it is read back.
-fn pass(total: &mut Total, calendar: &RuleCalendar, trades: &[Trade], bytes: &mut [u8; ROOM]) {
-    if let Ok(end) = write(SESSION, trades, bytes) {
-        if let Ok(view) = read(&bytes[0..end]) {
-            total.add_sheet(calendar, &view);
-        }
-    }
-}
-
-// Makes the trades of a sheet, and passes them on.
+// Makes the trades of a sheet, writes them, and adds the sheet as it is read back.
 fn next_sheet(
+    heap: Global,
     total: &mut Total,
     calendar: &RuleCalendar,
     numbers: &mut Numbers,
-    trades: &mut [Trade; 256],
-    bytes: &mut [u8; ROOM],
-) {
-    let lines = 1 + numbers.below(256) as usize;
-    fill(&mut trades[0..lines], numbers);
-    pass(total, calendar, &trades[0..lines], bytes);
+) -> Result<(), AllocError> {
+    let trades: Vec<Trade> = (0..line_count(numbers))
+        .map(|_| numbers.trade())
+        .collect(heap)?;
+    let mut bytes = vec![in heap; 0u8; 4 + 16 * trades.len()]?;
+    if write(SESSION, trades.as_slice(), bytes.as_mut_slice()).is_ok() {
+        if let Ok(view) = read(bytes.as_slice()) {
+            total.add_sheet(calendar, &view);
+        }
+    }
+    Ok(())
 }
 
 // The total of so many sheets.
 pub(crate) fn sheets(heap: Global, count: u32) -> Result<Total, AllocError> {
-    let calendar = RuleCalendar::new(
-        heap,
-        &[Exception {
-            day: 9_862,
-            kind: 0,
-        }],
-    )?;
-    let mut numbers = Numbers::new();
-    let mut total = Total {
-        lines: 0,
-        priced: 0,
-        sum: 0,
+    let closed = Exception {
+        day: 9_862,
+        kind: DayKind::Closed,
     };
-    let mut trades = [NO_TRADE; 256];
-    let mut bytes = [0; ROOM];
+    let calendar = RuleCalendar::new(heap, &[closed])?;
+    let mut numbers = Numbers::new();
+    let mut total = Total::default();
     for _ in 0..count {
-        next_sheet(&mut total, &calendar, &mut numbers, &mut trades, &mut bytes);
+        next_sheet(heap, &mut total, &calendar, &mut numbers)?;
     }
     Ok(total)
 }

@@ -1,75 +1,33 @@
 // A settlement price carried over the reserve days of a gap, day by day.
-use crate::failure::Failure;
-use crate::figures::{DI_PLACES, FACTOR_PLACES, Fixed, PRICE_PLACES, Points, parse_fixed};
-use crate::office::{OfficeCalendar, OfficeRates, read_office};
-use crate::sheets::day_words;
+use crate::failure::{Complaint, Failure, said};
+use crate::figures::{Counted, DI_PLACES, FACTOR_PLACES, Fixed, PRICE_PLACES, Points, day, fixed};
+use crate::office::{Office, OfficeRates, read_office};
 use calendar::kind::Calendar;
 use calendar::span::count_reserve_days;
-use correction::{Uncorrected, correct};
-use dates::Date;
+use correction::{Gap, correct};
+use dates::Day;
 use interest::{correct_day, day_factor};
 use rates::source::RateSource;
-use std::alloc::Global;
+use std::alloc::{AllocError, Global};
+use std::fmt;
 
 const HEADING: &str = "reserve day     rate %  source          factor       price\n";
 
 // The greatest settlement price.
 const MOST_PRICE: u32 = 10_000_000;
 
-// A gap and the price that is carried over it.
-#[derive(Clone, Copy)]
-struct Gap {
-    from: u32,
-    to: u32,
-    price: u32,
-}
-
-fn day_of(heap: Global, word: &str) -> Result<u32, Failure> {
-    match Date::parse(word) {
-        Ok(date) => Ok(date.day_number()),
-        Err(_) => Err(Failure::Said(format!(in heap; "no date: {word}")?)),
-    }
-}
-
 // The gap that three words say.
-fn gap_of(heap: Global, from: &str, to: &str, price: &str) -> Result<Gap, Failure> {
-    let from = day_of(heap, from)?;
-    let to = day_of(heap, to)?;
-    let Some(hundredths) = parse_fixed(price, PRICE_PLACES) else {
-        return Err(Failure::Said(format!(in heap; "no price: {price}")?));
-    };
-    if hundredths == 0 || hundredths > MOST_PRICE {
-        return Err(Failure::said(heap, "price not from 0.01 to 100 000.00")?);
+fn gap_of<'a>(from: &'a str, to: &'a str, price: &'a str) -> Result<Gap, Complaint<'a>> {
+    let from = day(from)?;
+    let to = day(to)?;
+    let price = fixed("no price", price, PRICE_PLACES)?;
+    if price == 0 || price > MOST_PRICE {
+        return Err(Complaint::Words("price not from 0.01 to 100 000.00"));
     }
     if to < from {
-        return Err(Failure::said(heap, "TO is before FROM")?);
+        return Err(Complaint::Words("TO is before FROM"));
     }
-    Ok(Gap {
-        from,
-        to,
-        price: hundredths,
-    })
-}
-
-fn price_words(heap: Global, hundredths: u64) -> Result<String, Failure> {
-    Ok(format!(in heap; "{}", Points { hundredths })?)
-}
-
-// The corrected price, or why there is none.
-fn corrected<C: Calendar>(
-    heap: Global,
-    calendar: &C,
-    rates: &OfficeRates,
-    gap: Gap,
-) -> Result<u64, Failure> {
-    match correct(calendar, rates, gap.from, gap.to, gap.price) {
-        Ok(price) => Ok(price),
-        Err(Uncorrected::TooLong) => Err(Failure::said(heap, "over 252 reserve days")?),
-        Err(Uncorrected::MissingRate(day)) => {
-            let date = day_words(heap, day)?;
-            Err(Failure::Said(format!(in heap; "no rate for {date}")?))
-        }
-    }
+    Ok(Gap { from, to, price })
 }
 
 // The factor of a day that has a rate.
@@ -78,13 +36,16 @@ fn factor_on(rates: &OfficeRates, day: u32) -> Option<u32> {
 }
 
 // The row of a reserve day, with the price after it.
-fn row(heap: Global, rates: &OfficeRates, day: u32, price: u64) -> Result<String, Failure> {
-    let date = day_words(heap, day)?;
+fn row(
+    heap: Global,
+    rates: &OfficeRates,
+    day: u32,
+    hundredths: u64,
+) -> Result<String, AllocError> {
     let rate = Fixed {
         value: rates.rate(day).unwrap_or(0),
         places: DI_PLACES,
     };
-    let rate = format!(in heap; "{rate}")?;
     let source = if rates.is_arbitrated(day) {
         "arbitrated"
     } else {
@@ -94,70 +55,67 @@ fn row(heap: Global, rates: &OfficeRates, day: u32, price: u64) -> Result<String
         value: factor_on(rates, day).unwrap_or(0),
         places: FACTOR_PLACES,
     };
+    let date = format!(in heap; "{}", Day { number: day })?;
+    let rate = format!(in heap; "{rate}")?;
     let factor = format!(in heap; "{factor}")?;
-    let price = price_words(heap, price)?;
-    Ok(format!(in heap; "{date:<11}  {rate:>9}  {source:<10}  {factor:>10}  {price:>10}\n")?)
+    let price = format!(in heap; "{}", Points { hundredths })?;
+    format!(in heap; "{date:<11}  {rate:>9}  {source:<10}  {factor:>10}  {price:>10}\n")
 }
 
 // The rows of a gap that can be corrected, and the factor of its last reserve day.
-fn rows<C: Calendar>(
+fn rows<'a>(
     heap: Global,
-    calendar: &C,
-    rates: &OfficeRates,
+    office: &Office,
     gap: Gap,
-) -> Result<(String, Option<u32>), Failure> {
+) -> Result<(String, Option<u32>), Complaint<'a>> {
     let mut text = String::new(heap);
     let mut last = None;
     for day in gap.from..gap.to {
-        if calendar.kind(day).is_reserve() {
-            let so_far = Gap {
-                from: gap.from,
-                to: day + 1,
-                price: gap.price,
-            };
-            let price = corrected(heap, calendar, rates, so_far)?;
-            text.push_str(row(heap, rates, day, price)?.as_str())?;
-            last = factor_on(rates, day);
+        if office.calendar.kind(day).is_reserve() {
+            let so_far = Gap { to: day + 1, ..gap };
+            let price = correct(&office.calendar, &office.rates, so_far)?;
+            text.push_str(row(heap, &office.rates, day, price)?.as_str())?;
+            last = factor_on(&office.rates, day);
         }
     }
     Ok((text, last))
 }
 
-// Where the last rate alone would have led.
-fn last_alone(heap: Global, price: u32, last: Option<u32>) -> Result<String, Failure> {
-    let Some(factor) = last else {
-        return Ok(String::new(heap));
-    };
-    match correct_day(price as u64, factor) {
-        Some(alone) => {
-            let words = price_words(heap, alone)?;
-            Ok(format!(in heap; "by the last rate alone: {words}\n")?)
+// Where the last rate alone would have led; nothing where no day has one.
+#[derive(Clone, Copy)]
+struct LastAlone {
+    price: u32,
+    last: Option<u32>,
+}
+
+impl fmt::Display for LastAlone {
+    fn fmt<W: fmt::Write>(&self, f: &mut fmt::Formatter<W>) -> fmt::Result {
+        match self.last.and_then(|factor| correct_day(self.price as u64, factor)) {
+            Some(hundredths) => writeln!(f, "by the last rate alone: {}", Points { hundredths }),
+            None => Ok(()),
         }
-        None => Ok(String::new(heap)),
     }
 }
 
 // The whole print of a correction.
-fn print<C: Calendar>(
-    heap: Global,
-    calendar: &C,
-    rates: &OfficeRates,
-    gap: Gap,
-) -> Result<String, Failure> {
-    let price = price_words(heap, corrected(heap, calendar, rates, gap)?)?;
-    let start = price_words(heap, gap.price as u64)?;
-    let from = day_words(heap, gap.from)?;
-    let to = day_words(heap, gap.to)?;
-    let (rows, last) = rows(heap, calendar, rates, gap)?;
-    let days = count_reserve_days(calendar, gap.from, gap.to);
-    let what = if days == 1 {
-        "reserve day"
-    } else {
-        "reserve days"
+fn print<'a>(heap: Global, office: &Office, gap: Gap) -> Result<String, Complaint<'a>> {
+    let Gap { from, to, price } = gap;
+    let start = Points {
+        hundredths: price as u64,
     };
-    let alone = last_alone(heap, gap.price, last)?;
-    let head = format!(in heap; "from {from} at {start}\n{HEADING}{rows}")?;
-    Ok(format!(in heap; "{head}to {to}: {price} over {days} {what}\n{alone}")?)
+    let corrected = Points {
+        hundredths: correct(&office.calendar, &office.rates, gap)?,
+    };
+    let (rows, last) = rows(heap, office, gap)?;
+    let days = Counted {
+        count: count_reserve_days(&office.calendar, from, to) as u64,
+        one: "reserve day",
+        many: "reserve days",
+    };
+    let from = Day { number: from };
+    let to = Day { number: to };
+    let alone = LastAlone { price, last };
+    Ok(format!(in heap; "from {from} at {start}\n{HEADING}{rows}to {to}: {corrected} over {days}\n{alone}")?)
 }
 
 // Carries a settlement price over a gap by the office's calendar and rates.
@@ -170,9 +128,6 @@ pub(crate) fn correct_gap(
 ) -> Result<String, Failure> {
     let heap = rt.alloc();
     let office = read_office(rt, office)?;
-    let gap = gap_of(heap, from, to, price)?;
-    match &office.calendar {
-        OfficeCalendar::Marked(marked) => print(heap, marked, &office.rates, gap),
-        OfficeCalendar::Rule(rule) => print(heap, rule, &office.rates, gap),
-    }
+    let gap = said(heap, gap_of(from, to, price))?;
+    said(heap, print(heap, &office, gap))
 }

@@ -1,58 +1,76 @@
 // Why a command is refused.
-use std::alloc::{AllocError, AllocFailed, Global};
-use std::{fmt, io};
+use correction::Uncorrected;
+use interest::Unpriceable;
+use refusal::Refusal;
+use std::alloc::{AllocError, Global};
+use std::io;
+use thiserror::Error;
 
-#[derive(Drop)]
-pub enum Failure {
+// Why the words of a command or of a line are refused.
+#[derive(Debug, Drop, Error)]
+pub(crate) enum Complaint<'a> {
+    #[error("{0}")]
+    Words(&'static str),
+    #[error("{what}: {word}")]
+    NoSuch { what: &'static str, word: &'a str },
+    #[error("cannot read {0}")]
+    CannotRead(&'a str),
+    #[error("cannot write {0}")]
+    CannotWrite(&'a str),
+    #[error("refused {}: {0}", .0.number())]
+    Refused(#[from] Refusal),
+    #[error("{0}")]
+    Unpriceable(#[from] Unpriceable),
+    #[error("{0}")]
+    Uncorrected(#[from] Uncorrected),
+    #[error("out of memory")]
+    Memory(#[from(alloc)] AllocError),
+}
+
+#[derive(Debug, Drop, Error)]
+pub(crate) enum Failure {
     // in these words
+    #[error("{0}")]
     Said(String),
     // at a line of a text file
+    #[error("{file}:{line}: {words}")]
     AtLine {
         file: String,
         line: usize,
         words: String,
     },
     // about a file
-    About {
-        file: String,
-        words: String,
-    },
-    Memory,
-    Output,
+    #[error("{file}: {words}")]
+    About { file: String, words: String },
+    #[error("out of memory")]
+    Memory(#[from(alloc)] AllocError),
+    #[error("cannot write standard output")]
+    Output(#[from] io::Error),
 }
 
-impl Failure {
-    pub(crate) fn said(heap: Global, words: &str) -> Result<Failure, AllocError> {
-        Ok(Failure::Said(String::from_str(heap, words)?))
+// A complaint about the words of a command.
+pub(crate) fn said<T>(heap: Global, answer: Result<T, Complaint<'_>>) -> Result<T, Failure> {
+    match answer {
+        Ok(value) => Ok(value),
+        Err(Complaint::Memory(e)) => Err(Failure::Memory(e)),
+        Err(complaint) => Err(Failure::Said(format!(in heap; "{complaint}")?)),
     }
 }
 
-impl From<AllocError> for Failure {
-    fn from(_e: AllocError) -> Failure {
-        Failure::Memory
-    }
-}
-
-impl<T: Drop> From<AllocFailed<T>> for Failure {
-    fn from(_e: AllocFailed<T>) -> Failure {
-        Failure::Memory
-    }
-}
-
-impl From<io::Error> for Failure {
-    fn from(_e: io::Error) -> Failure {
-        Failure::Output
-    }
-}
-
-impl fmt::Display for Failure {
-    fn fmt<W: fmt::Write>(&self, f: &mut fmt::Formatter<W>) -> fmt::Result {
-        match self {
-            Failure::Said(words) => write!(f, "{words}"),
-            Failure::AtLine { file, line, words } => write!(f, "{file}:{line}: {words}"),
-            Failure::About { file, words } => write!(f, "{file}: {words}"),
-            Failure::Memory => f.write_str("out of memory"),
-            Failure::Output => f.write_str("cannot write standard output"),
-        }
+// A complaint about a line of a file.
+pub(crate) fn at_line<T>(
+    heap: Global,
+    file: &str,
+    line: usize,
+    answer: Result<T, Complaint<'_>>,
+) -> Result<T, Failure> {
+    match answer {
+        Ok(value) => Ok(value),
+        Err(Complaint::Memory(e)) => Err(Failure::Memory(e)),
+        Err(complaint) => Err(Failure::AtLine {
+            file: String::from_str(heap, file)?,
+            line,
+            words: format!(in heap; "{complaint}")?,
+        }),
     }
 }

@@ -1,41 +1,30 @@
 // Rates, factors and prices as people write them.
-use crate::failure::Failure;
-use interest::{Unpriceable, day_factor, trade_price};
+use crate::failure::Complaint;
+use dates::Date;
+use interest::{day_factor, trade_price};
 use std::alloc::Global;
 use std::fmt;
 
 // Decimals after the point of a dealt rate, a price, a DI rate and a day factor.
-pub(crate) const RATE_PLACES: usize = 3;
+pub(crate) const RATE_PLACES: u32 = 3;
 
-pub(crate) const PRICE_PLACES: usize = 2;
+pub(crate) const PRICE_PLACES: u32 = 2;
 
-pub(crate) const DI_PLACES: usize = 6;
+pub(crate) const DI_PLACES: u32 = 6;
 
-pub(crate) const FACTOR_PLACES: usize = 8;
-
-const TENS: [u32; 9] = [
-    1,
-    10,
-    100,
-    1_000,
-    10_000,
-    100_000,
-    1_000_000,
-    10_000_000,
-    100_000_000,
-];
+pub(crate) const FACTOR_PLACES: u32 = 8;
 
 // A number with so many decimals after the point.
 #[derive(Clone, Copy)]
 pub(crate) struct Fixed {
     pub(crate) value: u32,
-    pub(crate) places: usize,
+    pub(crate) places: u32,
 }
 
 impl fmt::Display for Fixed {
     fn fmt<W: fmt::Write>(&self, f: &mut fmt::Formatter<W>) -> fmt::Result {
-        let places = self.places.min(8);
-        let unit = TENS[places];
+        let unit = 10u32.saturating_pow(self.places).max(1);
+        let places = self.places as usize;
         let whole = self.value / unit;
         let rest = self.value % unit;
         write!(f, "{whole}.{rest:0places$}")
@@ -62,6 +51,21 @@ impl fmt::Display for Points {
     }
 }
 
+// A count of things, in the word for one or for many.
+#[derive(Clone, Copy)]
+pub(crate) struct Counted {
+    pub(crate) count: u64,
+    pub(crate) one: &'static str,
+    pub(crate) many: &'static str,
+}
+
+impl fmt::Display for Counted {
+    fn fmt<W: fmt::Write>(&self, f: &mut fmt::Formatter<W>) -> fmt::Result {
+        let word = if self.count == 1 { self.one } else { self.many };
+        write!(f, "{} {word}", self.count)
+    }
+}
+
 // A number of digits alone.
 pub(crate) fn number(text: &str) -> Option<u32> {
     if text.starts_with('+') {
@@ -71,52 +75,56 @@ pub(crate) fn number(text: &str) -> Option<u32> {
 }
 
 // A number with a point and up to so many decimals, in units of the last of them.
-pub(crate) fn parse_fixed(text: &str, places: usize) -> Option<u32> {
+fn parse_fixed(text: &str, places: u32) -> Option<u32> {
     let Some((whole, decimals)) = text.split_once('.') else {
-        return number(text)?.checked_mul(unit(places)?);
+        return number(text)?.checked_mul(10u32.checked_pow(places)?);
     };
-    let missing = places.checked_sub(decimals.len())?;
-    let fraction = number(decimals)?.checked_mul(unit(missing)?)?;
+    let missing = places.checked_sub(u32::try_from(decimals.len()).ok()?)?;
+    let fraction = number(decimals)?.checked_mul(10u32.checked_pow(missing)?)?;
     number(whole)?
-        .checked_mul(unit(places)?)?
+        .checked_mul(10u32.checked_pow(places)?)?
         .checked_add(fraction)
 }
 
-fn unit(places: usize) -> Option<u32> {
-    TENS.get(places).copied()
+// What a word says as a number with decimals, or a complaint that names it.
+pub(crate) fn fixed<'a>(
+    what: &'static str,
+    word: &'a str,
+    places: u32,
+) -> Result<u32, Complaint<'a>> {
+    parse_fixed(word, places).ok_or(Complaint::NoSuch { what, word })
 }
 
-pub(crate) fn price(heap: Global, rate: &str, days: &str) -> Result<String, Failure> {
-    let Some(dealt) = parse_fixed(rate, RATE_PLACES) else {
-        return Err(Failure::Said(format!(in heap; "no rate: {rate}")?));
-    };
-    let Some(count) = number(days) else {
-        return Err(Failure::Said(format!(in heap; "no number: {days}")?));
-    };
-    match trade_price(dealt, count) {
-        Ok(hundredths) => {
-            let price = Points {
-                hundredths: hundredths as u64,
-            };
-            Ok(format!(in heap; "{price}\n")?)
-        }
-        Err(Unpriceable::RateTooHigh) => Err(Failure::said(heap, "rate over 99.999 %")?),
-        Err(Unpriceable::TooFar) => Err(Failure::said(heap, "over 2520 reserve days")?),
-    }
+// What a word says as a number.
+pub(crate) fn whole<'a>(what: &'static str, word: &'a str) -> Result<u32, Complaint<'a>> {
+    number(word).ok_or(Complaint::NoSuch { what, word })
 }
 
-pub(crate) fn factor(heap: Global, rate: &str) -> Result<String, Failure> {
-    let Some(di) = parse_fixed(rate, DI_PLACES) else {
-        return Err(Failure::Said(format!(in heap; "no rate: {rate}")?));
+// The day of a date.
+pub(crate) fn day<'a>(word: &'a str) -> Result<u32, Complaint<'a>> {
+    let what = "no date";
+    let date = Date::parse(word).map_err(|_| Complaint::NoSuch { what, word })?;
+    Ok(date.day_number())
+}
+
+pub(crate) fn price<'a>(
+    heap: Global,
+    rate: &'a str,
+    days: &'a str,
+) -> Result<String, Complaint<'a>> {
+    let dealt = fixed("no rate", rate, RATE_PLACES)?;
+    let count = whole("no number", days)?;
+    let price = Points {
+        hundredths: trade_price(dealt, count)? as u64,
     };
-    match day_factor(di) {
-        Some(value) => {
-            let factor = Fixed {
-                value,
-                places: FACTOR_PLACES,
-            };
-            Ok(format!(in heap; "{factor}\n")?)
-        }
-        None => Err(Failure::said(heap, "rate over 99.999999 %")?),
-    }
+    Ok(format!(in heap; "{price}\n")?)
+}
+
+pub(crate) fn factor<'a>(heap: Global, rate: &'a str) -> Result<String, Complaint<'a>> {
+    let di = fixed("no rate", rate, DI_PLACES)?;
+    let factor = Fixed {
+        value: day_factor(di).ok_or(Complaint::Words("rate over 99.999999 %"))?,
+        places: FACTOR_PLACES,
+    };
+    Ok(format!(in heap; "{factor}\n")?)
 }

@@ -9,7 +9,7 @@ mod report;
 mod sheets;
 mod texts;
 
-use failure::Failure;
+use failure::{Complaint, Failure, said};
 use std::process::ExitCode;
 use std::{env, io};
 
@@ -25,40 +25,40 @@ settle help                          this list
 
 // The words after the program's name.
 fn words(rt: &HostRuntime) -> Result<Vec<String>, Failure> {
-    let mut words = Vec::new(rt.alloc());
-    let Ok(given) = env::args(rt) else {
-        return Err(Failure::said(rt.alloc(), "a word of the command is not UTF-8")?);
-    };
-    for word in given.skip(1) {
-        words.push(word)?;
+    let heap = rt.alloc();
+    match env::args(rt) {
+        Ok(given) => Ok(given.skip(1).collect(heap)?),
+        Err(_) => said(
+            heap,
+            Err(Complaint::Words("a word of the command is not UTF-8")),
+        ),
     }
-    Ok(words)
 }
 
 // What a command prints.
 fn answer(rt: &HostRuntime, words: &[&str]) -> Result<String, Failure> {
+    let heap = rt.alloc();
     match words {
         ["prices", office, sheet] => report::prices(rt, office, sheet),
-        ["correct", office, from, to, price] => corrections::correct_gap(
-            rt, office, from, to, price,
-        ),
+        ["correct", office, from, to, price] => {
+            corrections::correct_gap(rt, office, from, to, price)
+        }
         ["sheet", "show", file] => sheets::show(rt, file),
         ["sheet", "make", text, file] => sheets::make(rt, text, file),
-        ["price", rate, days] => figures::price(rt.alloc(), rate, days),
-        ["factor", rate] => figures::factor(rt.alloc(), rate),
-        ["help"] => Ok(String::from_str(rt.alloc(), HELP)?),
-        _ => Err(Failure::said(rt.alloc(), "unknown command; try: settle help")?),
+        ["price", rate, days] => said(heap, figures::price(heap, rate, days)),
+        ["factor", rate] => said(heap, figures::factor(heap, rate)),
+        ["help"] => Ok(String::from_str(heap, HELP)?),
+        _ => said(
+            heap,
+            Err(Complaint::Words("unknown command; try: settle help")),
+        ),
     }
 }
 
 fn run(rt: &HostRuntime) -> Result<(), Failure> {
     let words = words(rt)?;
-    let mut given = Vec::new(rt.alloc());
-    for word in words.iter() {
-        given.push(word.as_str())?;
-    }
-    let printed = answer(rt, given.as_slice())?;
-    rt.print(printed)?;
+    let given: Vec<&str> = words.iter().map(|word| word.as_str()).collect(rt.alloc())?;
+    rt.print(answer(rt, given.as_slice())?)?;
     Ok(())
 }
 

@@ -1,17 +1,18 @@
 // The office file: the calendar on which sheets are priced, and the rates by which prices are
 // corrected.
-use crate::failure::Failure;
-use crate::figures::{DI_PLACES, number, parse_fixed};
-use crate::texts::{Line, at_line, bad_line, lines_of, no_such, read_text};
+ghost use Rattle.settle.specs.Office.{office_kinds};
+ghost use Rattle.std.proofs.Common.{rules};
+
+use crate::failure::{Complaint, Failure, at_line, said};
+use crate::figures::{DI_PLACES, day, fixed, whole};
+use crate::texts::{Line, lines_of, read_bytes, read_text};
+use calendar::kind::{Calendar, DayKind};
 use calendar::marked::MarkedCalendar;
 use calendar::rule::{Exception, RuleCalendar};
-use dates::Date;
 use rates::layer::{Arbitrated, DayRate};
-use rates::source::{Publishing, RateSource};
+use rates::source::Publishing;
 use rates::table::TableSource;
-use refusal::Refusal;
-use std::alloc::Global;
-use std::fs;
+use std::alloc::{AllocError, Global};
 
 // The most days of a table of rates.
 const MOST_RATES: u32 = 36_525;
@@ -26,248 +27,185 @@ pub(crate) enum OfficeCalendar {
     Rule(RuleCalendar),
 }
 
+impl Calendar for OfficeCalendar {
+    ghost kinds = { office_kinds };
+
+    ghost ends = { Prim.search rules };
+
+    fn kind(&self, day: u32) -> DayKind {
+        match self {
+            OfficeCalendar::Marked(marked) => marked.kind(day),
+            OfficeCalendar::Rule(rule) => rule.kind(day),
+        }
+    }
+}
+
 #[derive(Drop)]
 pub(crate) struct Office {
     pub(crate) calendar: OfficeCalendar,
     pub(crate) rates: OfficeRates,
 }
 
-// What the lines after the calendar line have said so far.
+// What the lines have said so far of the calendar; a marked one takes no exception.
+#[derive(Drop)]
+enum Days {
+    Marked(Vec<u8>),
+    Rule(Vec<Exception>),
+}
+
+// What the lines have said so far.
 #[derive(Drop)]
 struct Draft {
-    takes_exceptions: bool,
-    exceptions: Vec<Exception>,
+    days: Days,
     rates: Option<OfficeRates>,
 }
 
-// The number of a kind of day.
-fn kind_number(word: &str) -> Option<u8> {
+// A table of rates under a layer, with no rates yet.
+fn new_rates(heap: Global, first: u32, count: u32) -> Result<OfficeRates, AllocError> {
+    Ok(Arbitrated::new(heap, TableSource::empty(heap, first, count)?)?)
+}
+
+fn kind_of_day<'a>(word: &'a str) -> Result<DayKind, Complaint<'a>> {
     match word {
-        "closed" => Some(0),
-        "reserve" => Some(1),
-        "session" => Some(2),
-        _ => None,
+        "closed" => Ok(DayKind::Closed),
+        "reserve" => Ok(DayKind::Reserve),
+        "session" => Ok(DayKind::Session),
+        _ => Err(Complaint::NoSuch {
+            what: "no kind of day",
+            word,
+        }),
     }
 }
 
 // An exception line.
-fn exception(heap: Global, file: &str, line: &Line) -> Result<Exception, Failure> {
-    let ["exception", date, kind] = line.words.as_slice() else {
-        return Err(bad_line(
-            heap,
-            file,
-            line.number,
+fn exception<'a>(words: &[&'a str]) -> Result<Exception, Complaint<'a>> {
+    let ["exception", date, kind] = words else {
+        return Err(Complaint::Words(
             "expected: exception DATE closed, reserve or session",
         ));
     };
-    let Ok(day) = Date::parse(date) else {
-        return Err(no_such(heap, file, line.number, "no date", date));
-    };
-    let Some(kind) = kind_number(kind) else {
-        return Err(no_such(heap, file, line.number, "no kind of day", kind));
-    };
     Ok(Exception {
-        day: day.day_number(),
-        kind,
+        day: day(date)?,
+        kind: kind_of_day(kind)?,
     })
-}
-
-fn marks(rt: &HostRuntime, file: &str, line: usize, path: &str) -> Result<Vec<u8>, Failure> {
-    match fs::read(rt, path) {
-        Ok(bytes) => Ok(bytes),
-        Err(_) => {
-            let words = format!(in rt.alloc(); "cannot read {path}")?;
-            Err(bad_line(rt.alloc(), file, line, words.as_str()))
-        }
-    }
-}
-
-// A table of rates under a layer, with no rates yet.
-fn new_rates(heap: Global, first: u32, count: u32) -> Result<OfficeRates, Failure> {
-    Ok(Arbitrated::new(heap, TableSource::empty(heap, first, count)?)?)
 }
 
 // A rates line.
-fn rates_line(heap: Global, file: &str, line: &Line) -> Result<OfficeRates, Failure> {
-    let ["rates", "table", first, count] = line.words.as_slice() else {
-        return Err(bad_line(heap, file, line.number, "expected: rates table FIRST COUNT"));
+fn rates_line<'a>(heap: Global, words: &[&'a str]) -> Result<OfficeRates, Complaint<'a>> {
+    let ["rates", "table", first, count] = words else {
+        return Err(Complaint::Words("expected: rates table FIRST COUNT"));
     };
-    let Ok(date) = Date::parse(first) else {
-        return Err(no_such(heap, file, line.number, "no date", first));
-    };
-    let Some(days) = number(count) else {
-        return Err(no_such(heap, file, line.number, "no number", count));
-    };
-    if days > MOST_RATES {
-        return Err(bad_line(heap, file, line.number, "over 36525 days"));
+    let first = day(first)?;
+    let count = whole("no number", count)?;
+    if count > MOST_RATES {
+        return Err(Complaint::Words("over 36525 days"));
     }
-    new_rates(heap, date.day_number(), days)
+    Ok(new_rates(heap, first, count)?)
 }
 
 // The day and the rate of a line of three words.
-fn day_rate(heap: Global, file: &str, line: &Line, expected: &str) -> Result<DayRate, Failure> {
-    let [_, date, percent] = line.words.as_slice() else {
-        return Err(bad_line(heap, file, line.number, expected));
-    };
-    let Ok(day) = Date::parse(date) else {
-        return Err(no_such(heap, file, line.number, "no date", date));
-    };
-    let Some(rate) = parse_fixed(percent, DI_PLACES) else {
-        return Err(no_such(heap, file, line.number, "no rate", percent));
+fn day_rate<'a>(expected: &'static str, words: &[&'a str]) -> Result<DayRate, Complaint<'a>> {
+    let [_, date, percent] = words else {
+        return Err(Complaint::Words(expected));
     };
     Ok(DayRate {
-        day: day.day_number(),
-        rate,
+        day: day(date)?,
+        rate: fixed("no rate", percent, DI_PLACES)?,
     })
 }
 
-// What the source answered.
-fn taken(
-    heap: Global,
-    file: &str,
-    line: usize,
-    answer: Result<(), Refusal>,
-) -> Result<(), Failure> {
-    let Err(refusal) = answer else {
-        return Ok(());
-    };
-    let number = refusal.number();
-    let words = format!(in heap; "refused {number}: {refusal}")?;
-    Err(at_line(heap, file, line, words))
-}
-
-fn publish_line(
-    heap: Global,
-    file: &str,
-    line: &Line,
-    rates: &mut Option<OfficeRates>,
-) -> Result<(), Failure> {
-    let Some(source) = rates else {
-        return Err(bad_line(heap, file, line.number, "no rates line before"));
-    };
-    let DayRate { day, rate } = day_rate(heap, file, line, "expected: rate DATE PERCENT")?;
-    taken(heap, file, line.number, source.publish(day, rate, 1))
-}
-
-fn arbitrate_line(
-    heap: Global,
-    file: &str,
-    line: &Line,
-    rates: &mut Option<OfficeRates>,
-) -> Result<(), Failure> {
-    let Some(source) = rates else {
-        return Err(bad_line(heap, file, line.number, "no rates line before"));
-    };
-    let DayRate { day, rate } = day_rate(heap, file, line, "expected: arbitrate DATE PERCENT")?;
-    taken(heap, file, line.number, source.arbitrate(day, rate))
-}
-
 impl Draft {
-    fn take_exception(&mut self, heap: Global, file: &str, line: &Line) -> Result<(), Failure> {
-        if !self.takes_exceptions {
-            return Err(bad_line(
-                heap,
-                file,
-                line.number,
-                "a marked calendar takes no exception",
-            ));
+    // The calendar line.
+    fn begin<'a>(rt: &HostRuntime, words: &[&'a str]) -> Result<Draft, Complaint<'a>> {
+        let days = match words {
+            ["calendar", "rule"] => Days::Rule(Vec::new(rt.alloc())),
+            ["calendar", "marked", path] => Days::Marked(read_bytes(rt, path)?),
+            ["calendar", ..] => {
+                return Err(Complaint::Words(
+                    "expected: calendar rule, or calendar marked FILE",
+                ));
+            }
+            _ => return Err(Complaint::Words("no calendar line")),
+        };
+        Ok(Draft { days, rates: None })
+    }
+
+    fn take_exception<'a>(&mut self, words: &[&'a str]) -> Result<(), Complaint<'a>> {
+        match &mut self.days {
+            Days::Marked(_) => Err(Complaint::Words("a marked calendar takes no exception")),
+            Days::Rule(exceptions) => Ok(exceptions.push(exception(words)?)?),
         }
-        self.exceptions.push(exception(heap, file, line)?)?;
+    }
+
+    fn take_rates<'a>(&mut self, heap: Global, words: &[&'a str]) -> Result<(), Complaint<'a>> {
+        if self.rates.is_some() {
+            return Err(Complaint::Words("a second rates line"));
+        }
+        self.rates = Some(rates_line(heap, words)?);
         Ok(())
     }
 
-    fn take_rates(&mut self, heap: Global, file: &str, line: &Line) -> Result<(), Failure> {
-        if self.rates.is_some() {
-            return Err(bad_line(heap, file, line.number, "a second rates line"));
-        }
-        self.rates = Some(rates_line(heap, file, line)?);
-        Ok(())
+    // The rates of the line before.
+    fn rates_so_far<'a>(&mut self) -> Result<&mut OfficeRates, Complaint<'a>> {
+        self.rates
+            .as_mut()
+            .ok_or(Complaint::Words("no rates line before"))
+    }
+
+    fn publish<'a>(&mut self, words: &[&'a str]) -> Result<(), Complaint<'a>> {
+        let rates = self.rates_so_far()?;
+        let DayRate { day, rate } = day_rate("expected: rate DATE PERCENT", words)?;
+        Ok(rates.publish(day, rate, 1)?)
+    }
+
+    fn arbitrate<'a>(&mut self, words: &[&'a str]) -> Result<(), Complaint<'a>> {
+        let rates = self.rates_so_far()?;
+        let DayRate { day, rate } = day_rate("expected: arbitrate DATE PERCENT", words)?;
+        Ok(rates.arbitrate(day, rate)?)
     }
 
     // A line after the calendar line.
-    fn take_line(&mut self, heap: Global, file: &str, line: &Line) -> Result<(), Failure> {
-        match line.words.as_slice() {
-            ["exception", ..] => self.take_exception(heap, file, line),
-            ["rates", ..] => self.take_rates(heap, file, line),
-            ["rate", ..] => publish_line(heap, file, line, &mut self.rates),
-            ["arbitrate", ..] => arbitrate_line(heap, file, line, &mut self.rates),
-            ["calendar", ..] => Err(bad_line(heap, file, line.number, "a second calendar")),
-            [word, ..] => Err(no_such(heap, file, line.number, "unknown word", word)),
+    fn take_line<'a>(&mut self, heap: Global, words: &[&'a str]) -> Result<(), Complaint<'a>> {
+        match words {
+            ["exception", ..] => self.take_exception(words),
+            ["rates", ..] => self.take_rates(heap, words),
+            ["rate", ..] => self.publish(words),
+            ["arbitrate", ..] => self.arbitrate(words),
+            ["calendar", ..] => Err(Complaint::Words("a second calendar")),
+            [word, ..] => Err(Complaint::NoSuch {
+                what: "unknown word",
+                word,
+            }),
             [] => Ok(()),
         }
     }
-}
 
-// What the lines after the calendar line say.
-fn drafted(
-    heap: Global,
-    file: &str,
-    lines: &[Line],
-    takes_exceptions: bool,
-) -> Result<Draft, Failure> {
-    let mut draft = Draft {
-        takes_exceptions,
-        exceptions: Vec::new(heap),
-        rates: None,
-    };
-    for line in lines.iter() {
-        draft.take_line(heap, file, line)?;
-    }
-    Ok(draft)
-}
-
-// The office without a rates line has no rates.
-fn office_of(
-    heap: Global,
-    calendar: OfficeCalendar,
-    rates: Option<OfficeRates>,
-) -> Result<Office, Failure> {
-    match rates {
-        Some(rates) => Ok(Office { calendar, rates }),
-        None => {
-            let rates = new_rates(heap, 0, 0)?;
-            Ok(Office { calendar, rates })
-        }
+    // The office that the lines have said; without a rates line it has no rates.
+    fn finish(self, heap: Global) -> Result<Office, AllocError> {
+        let Draft { days, rates } = self;
+        let calendar = match days {
+            Days::Marked(marks) => OfficeCalendar::Marked(MarkedCalendar::new(marks)),
+            Days::Rule(exceptions) => OfficeCalendar::Rule(RuleCalendar::new(heap, exceptions.as_slice())?),
+        };
+        let rates = match rates {
+            Some(rates) => rates,
+            None => new_rates(heap, 0, 0)?,
+        };
+        Ok(Office { calendar, rates })
     }
 }
 
 // The office that a file describes.
 pub(crate) fn read_office(rt: &HostRuntime, file: &str) -> Result<Office, Failure> {
     let heap = rt.alloc();
-    let text = read_text(rt, file)?;
+    let text = said(heap, read_text(rt, file))?;
     let lines = lines_of(heap, text.as_str())?;
     let Some((first, rest)) = lines.as_slice().split_first() else {
-        return Err(bad_line(heap, file, 1, "no calendar line"));
+        return at_line(heap, file, 1, Err(Complaint::Words("no calendar line")));
     };
-    match first.words.as_slice() {
-        ["calendar", "rule"] => {
-            let Draft {
-                takes_exceptions: _,
-                exceptions,
-                rates,
-            } = drafted(heap, file, rest, true)?;
-            let calendar = RuleCalendar::new(heap, exceptions.as_slice())?;
-            office_of(heap, OfficeCalendar::Rule(calendar), rates)
-        }
-        ["calendar", "marked", path] => {
-            let bytes = marks(rt, file, first.number, path)?;
-            let Draft {
-                takes_exceptions: _,
-                exceptions: _,
-                rates,
-            } = drafted(heap, file, rest, false)?;
-            office_of(
-                heap,
-                OfficeCalendar::Marked(MarkedCalendar::new(bytes)),
-                rates,
-            )
-        }
-        ["calendar", ..] => Err(bad_line(
-            heap,
-            file,
-            first.number,
-            "expected: calendar rule, or calendar marked FILE",
-        )),
-        _ => Err(bad_line(heap, file, first.number, "no calendar line")),
+    let mut draft = at_line(heap, file, first.number, Draft::begin(rt, first.words.as_slice()))?;
+    for Line { number, words } in rest {
+        at_line(heap, file, *number, draft.take_line(heap, words.as_slice()))?;
     }
+    Ok(draft.finish(heap)?)
 }
