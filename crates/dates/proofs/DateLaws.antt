@@ -38,8 +38,8 @@ dated m k h o =
     (((omega arith, omega arith), (omega arith, omega arith), (omega arith, omega arith)), omega arith)
 
 -- the text of the date of a day is that of the day
-pub day-text-is : (d : Date) (n : ℕ) → day_number d ≡ n → OnlyDay d n → text_of d ≡ day_text n
-day-text-is d n e only =
+pub day_text_is : (d : Date) (n : ℕ) → day_number d ≡ n → OnlyDay d n → text_of d ≡ day_text n
+day_text_is d n e only =
     let m = month_of n in
     let h : n ≤ 36524 = omega (arith, date-bound d.year d.month d.day d.real) in
     let o = month-holds n h in

@@ -5,12 +5,12 @@ use Rattle.std.specs.Fmt.{styled_decimal, format_spec, padded_integral, char_cou
 use Rattle.std.proofs.lemmas.Bool.{cases_lt}
 use Rattle.std.proofs.lemmas.Fmt.{decimal_digit, decimal_step}
 use Rattle.dates.specs.Dates.{month_number, two_digits, date_text, Digits, Formed, Undated}
-use Rattle.dates.proofs.MonthLaws.{length-bound}
+use Rattle.dates.proofs.MonthLaws.{length_bound}
 
 -- the text of a date has the form of one
 pub undated : (bs : List ℕ) → (Formed bs → ⊥) → Undated bs
 undated bs no-form y m d r e =
-    let l = length-bound (month_number y m) in
+    let l = length_bound (month_number y m) in
     no-form (y, m, d, (omega arith, omega arith, omega arith, e))
 
 -- the n bytes of bs from place i on
@@ -36,17 +36,17 @@ text-is bs p q m d l a b x e y f =
     rw (c, o) (cc)
 
 -- what `{:02}` writes
-pub two-digits : (n : ℕ) → n < 100 → styled_decimal (format_spec 32 0 4 2 (2 ^ 64 - 1)) n ≡ two_digits n
+pub shown_in_two : (n : ℕ) → n < 100 → styled_decimal (format_spec 32 0 4 2 (2 ^ 64 - 1)) n ≡ two_digits n
 unfolding padded_integral char_count
-two-digits n small = elim (cases_lt n 10) [
+shown_in_two n small = elim (cases_lt n 10) [
   | inl one ↦ let high : n / 10 ≡ 0 = omega arith in let low : n % 10 ≡ n = omega arith in rw (decimal_digit n one, high, low)
   | inr two ↦ let t : n / 10 < 10 = omega arith in rw (decimal_step n two (omega arith), decimal_digit (n / 10) t)
 ]
 
 -- what `{:04}` writes of a year
-pub four-digits : (n : ℕ) → 1000 ≤ n → n < 10000 → styled_decimal (format_spec 32 0 4 4 (2 ^ 64 - 1)) n ≡ two_digits (n / 100) ++ two_digits (n % 100)
+pub shown_in_four : (n : ℕ) → 1000 ≤ n → n < 10000 → styled_decimal (format_spec 32 0 4 4 (2 ^ 64 - 1)) n ≡ two_digits (n / 100) ++ two_digits (n % 100)
 unfolding padded_integral char_count
-four-digits n some small =
+shown_in_four n some small =
     let a : n / 10 / 10 / 10 ≡ n / 100 / 10 = omega arith in
     let b : n / 10 / 10 % 10 ≡ n / 100 % 10 = omega arith in
     let d : n / 10 % 10 ≡ n % 100 / 10 = omega arith in

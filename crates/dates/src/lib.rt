@@ -33,6 +33,7 @@ fn days_in(of_year: u32, leap: bool) -> u32
 }
 
 // The days of a month.
+#[tactic(auto, unfolding(crate::specs::Months::month_length))]
 pub fn month_length(month: u32) -> Option<u32>
     ensures value { SomeIff result (month ≤ 1199) (month_length month) }
     ensures bound { IfSome result (λ n. (28 ≤ n) × (n ≤ 31)) }

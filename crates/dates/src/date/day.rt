@@ -13,6 +13,7 @@ pub struct Day {
 impl fmt::Display for Day {
     ghost output = { λ d. Some (day_text d.number) };
 
+    #[tactic(auto, using(crate::proofs::DateLaws::day_text_is))]
     fn fmt<W: fmt::Write>(&self, f: &mut fmt::Formatter<W>) -> fmt::Result {
         match Date::of_day(self.number) {
             Some(date) => write!(f, "{date}"),

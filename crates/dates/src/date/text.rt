@@ -30,6 +30,7 @@ impl Error for DateError {}
 impl fmt::Display for Date {
     ghost output = { λ d. Some (text_of d) };
 
+    #[tactic(auto, using(crate::proofs::MonthLaws::length_bound, crate::proofs::TextLaws::shown_in_two, crate::proofs::TextLaws::shown_in_four))]
     fn fmt<W: fmt::Write>(&self, f: &mut fmt::Formatter<W>) -> fmt::Result {
         write!(f, "{:04}-{:02}-{:02}", self.year, self.month, self.day)
     }
