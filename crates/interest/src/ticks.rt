@@ -21,13 +21,7 @@ const TICK_BANDS: [TickBand; 3] = [
 fn step_in(bands: &[TickBand], distance: u32) -> Option<u32>
     ensures { result ≡ step_in distance bands.now None }
 {
-    let mut found = None;
-    for band in bands {
-        if band.from <= distance {
-            found = Some(band.step);
-        }
-    }
-    found
+    bands.iter().filter(|band| band.from <= distance).last().map(|band| band.step)
 }
 
 // The step at a distance, or nothing in the month of the expiry.
@@ -41,8 +35,5 @@ pub fn tick(distance: u32) -> Option<u32>
 pub fn on_tick(rate: u32, distance: u32) -> bool
     ensures { result ≡ on_tick rate distance }
 {
-    match tick(distance) {
-        Some(step) => rate % step == 0,
-        None => false,
-    }
+    tick(distance).is_some_and(|step| rate % step == 0)
 }
