@@ -4,7 +4,7 @@ ghost use Rattle.interest.specs.Figures.{FiguresHold};
 ghost use Rattle.interest.specs.Price.{DayFactor, TradePrice, after_years};
 ghost use Rattle.interest.specs.Refusal.{Refused, message};
 
-use crate::powers::{ONE, YEAR, Target, raised};
+use crate::powers::{ONE, Target, YEAR, raised};
 use std::fmt;
 
 // The greatest DI rate, in millionths of a percent.

@@ -1,13 +1,7 @@
 use Rattle.std.proofs.Common.{◌≡◌, arith}
 use Rattle.interest.specs.Price.{after_days, trade_price}
-use Rattle.interest.proofs.Bounds.{share-most, trade-price-least, trade-price-most}
+use Rattle.interest.proofs.Bounds.{trade-price-least, trade-price-most}
 use Rattle.interest.proofs.prices.Dealt.price.Goals as goal
-
-pub overflow_mul-part : goal.overflow_mul-part
-overflow_mul-part c = record { fits = omega (arith, share-most c.raised.result c.raised.ensures.least) }
-
-pub discounted-requires : goal.discounted-requires
-discounted-requires c = share-most c.raised.result c.raised.ensures.least
 
 pub returns : goal.returns
 unfolding trade_price after_days
