@@ -58,38 +58,45 @@ fn logarithm(s: u64) -> u64
     2 * s * a / (a - z)
 }
 
-// Where to look first for the root: nothing rests on it.
-fn guess(target: u64) -> u64
-    requires { RootRange target }
-    ensures { result ≤ 2000000000 }
-{
-    let y = logarithm((target - ONE) * ONE / (target + ONE)) * 1_000 / 252;
-    let squared = y * (y + y * y / 3_000_000_000_000) / 2_000_000_000_000;
-    ONE + (y + squared + 900) / 1_000
+// What a root is taken of: a factor from 1 to 2.
+#[derive(Clone, Copy)]
+pub(crate) struct Target {
+    pub(crate) value: u64,
+    ghost range: { RootRange value },
 }
 
-// The root of the target, within the range.
-pub(crate) fn root_within(target: u64) -> u64
-    requires { RootRange target }
-    ensures greatest { Root target result }
-    ensures value { result ≡ root_of target }
-    ensures below { result < 1002754371 }
-{
-    let mut low = ONE;
-    let mut high = BEYOND;
-    let mut next = guess(target);
-    while high - low > 1 {
-        let at = next.max(low + 1).min(high - 1);
-        let reached = raised(at, YEAR);
-        if reached <= target {
-            low = at;
-            next = at + (target - reached) * ONE / (252 * reached);
-        } else {
-            high = at;
-            next = (at - 1).saturating_sub((reached - target) * ONE / (252 * reached));
-        }
+impl Target {
+    // Where to look first for the root: nothing rests on it.
+    fn guess(self) -> u64
+        ensures { result ≤ 2000000000 }
+    {
+        let y = logarithm((self.value - ONE) * ONE / (self.value + ONE)) * 1_000 / 252;
+        let squared = y * (y + y * y / 3_000_000_000_000) / 2_000_000_000_000;
+        ONE + (y + squared + 900) / 1_000
     }
-    low
+
+    // The greatest factor whose power to 252 is at most the target.
+    pub(crate) fn root(self) -> u64
+        ensures greatest { Root self.value result }
+        ensures value { result ≡ root_of self.value }
+        ensures below { result < 1002754371 }
+    {
+        let mut low = ONE;
+        let mut high = BEYOND;
+        let mut next = self.guess();
+        while high - low > 1 {
+            let at = next.max(low + 1).min(high - 1);
+            let reached = raised(at, YEAR);
+            if reached <= self.value {
+                low = at;
+                next = at + (self.value - reached) * ONE / (252 * reached);
+            } else {
+                high = at;
+                next = (at - 1).saturating_sub((reached - self.value) * ONE / (252 * reached));
+            }
+        }
+        low
+    }
 }
 
 // The greatest factor whose power to 252 is at most the target, or nothing outside the range.
@@ -99,5 +106,5 @@ pub fn root(target: u64) -> Option<u64>
     if target < ONE || target > 2 * ONE {
         return None;
     }
-    Some(root_within(target))
+    Some(Target { value: target }.root())
 }

@@ -1,10 +1,11 @@
 // Day factors of DI rates, and prices of dealt rates.
-ghost use Rattle.std.specs.Prelude.{◌≡◌, ◌+◌, ◌/◌, ◌<◌, ◌≤◌, MatchOption, MatchResult};
+ghost use Rattle.std.specs.Prelude.{◌≡◌, ◌+◌, ◌/◌, ◌<◌, ◌≤◌, Some, MatchOption, MatchResult};
 ghost use Rattle.interest.specs.Figures.{FiguresHold};
 ghost use Rattle.interest.specs.Price.{DayFactor, TradePrice, after_years};
-ghost use Rattle.interest.specs.Refusal.{Refused};
+ghost use Rattle.interest.specs.Refusal.{Refused, message};
 
-use crate::powers::{ONE, YEAR, raised, root_within};
+use crate::powers::{ONE, Target, YEAR, raised};
+use std::fmt;
 
 // The greatest DI rate, in millionths of a percent.
 const DI_MOST: u32 = 99_999_999;
@@ -19,6 +20,19 @@ pub enum Unpriceable {
     RateTooHigh,
     TooFar,
 }
+
+impl fmt::Display for Unpriceable {
+    ghost output = { λ e. Some (message e) };
+
+    fn fmt<W: fmt::Write>(&self, f: &mut fmt::Formatter<W>) -> fmt::Result {
+        match self {
+            Unpriceable::RateTooHigh => write!(f, "rate over 99.999 %"),
+            Unpriceable::TooFar => write!(f, "over 2520 reserve days"),
+        }
+    }
+}
+
+impl std::error::Error for Unpriceable {}
 
 // A factor of nine decimals, rounded to eight.
 fn to_eight_decimals(factor: u64) -> u32
@@ -35,21 +49,10 @@ pub fn day_factor(rate: u32) -> Option<u32>
     if rate > DI_MOST {
         return None;
     }
-    Some(to_eight_decimals(root_within(ONE + 10 * rate as u64)))
-}
-
-// What is left of a worth after whole years of discount.
-fn discounted(worth: u64, rate: u32, years: u32) -> u64
-    requires worth { worth ≤ 100000000000000 }
-    requires rate { rate ≤ 99999 }
-    ensures value { result ≡ after_years rate years worth }
-    ensures most { result ≤ 100000000000000 }
-{
-    let mut left = worth;
-    for year in 0..years {
-        left = left * 100_000 / (100_000 + rate as u64);
-    }
-    left
+    let target = Target {
+        value: ONE + 10 * rate as u64,
+    };
+    Some(to_eight_decimals(target.root()))
 }
 
 // A worth in units of 10^-9 of a point, rounded to hundredths of a point.
@@ -60,40 +63,66 @@ fn to_centavos(worth: u64) -> u32
     ((worth + 5_000_000) / 10_000_000) as u32
 }
 
-// The price of a dealt rate over the reserve days to the expiry, within the limits.
-fn price_within(rate: u32, days: u32) -> u32
-    requires rate { rate ≤ 99999 }
-    requires days { days ≤ 2520 }
-    ensures { TradePrice rate days result }
-{
-    let factor = root_within(ONE + 10_000 * rate as u64);
-    let part = 10_000_000_000_000_000_000 / raised(factor, days % YEAR) * 10_000;
-    to_centavos(discounted(part, rate, days / YEAR))
+// A dealt rate and the reserve days to the expiry, within the limits.
+#[derive(Clone, Copy)]
+struct Dealt {
+    rate: u32,
+    days: u32,
+    ghost rate_limit: { rate ≤ 99999 },
+    ghost day_limit: { days ≤ 2520 },
 }
 
-// Whether there is a price: the rate is looked at first, then the days.
-fn check_limits(rate: u32, days: u32) -> Result<(), Unpriceable>
-    ensures { MatchResult result (λ _. (rate ≤ 99999) × (days ≤ 2520)) (λ e. Refused rate days e) }
-{
-    if rate > DEALT_MOST {
-        return Err(Unpriceable::RateTooHigh);
+impl Dealt {
+    // The rate is looked at first, then the days.
+    fn new(rate: u32, days: u32) -> Result<Dealt, Unpriceable>
+        ensures { MatchResult result (λ d. (d.rate ≡ rate) × (d.days ≡ days)) (λ e. Refused rate days e) }
+    {
+        if rate > DEALT_MOST {
+            return Err(Unpriceable::RateTooHigh);
+        }
+        if days > DAYS_MOST {
+            return Err(Unpriceable::TooFar);
+        }
+        Ok(Dealt { rate, days })
     }
-    if days > DAYS_MOST {
-        return Err(Unpriceable::TooFar);
+
+    // What is left of a worth after whole years of discount.
+    fn discounted(self, worth: u64) -> u64
+        requires { worth ≤ 100000000000000 }
+        ensures value { result ≡ after_years self.rate (self.days / 252) worth }
+        ensures most { result ≤ 100000000000000 }
+    {
+        let mut left = worth;
+        for year in 0..self.days / YEAR {
+            left = left * 100_000 / (100_000 + self.rate as u64);
+        }
+        left
     }
-    Ok(())
+
+    // The price in hundredths of a point.
+    fn price(self) -> u32
+        ensures { TradePrice self.rate self.days result }
+    {
+        let target = Target {
+            value: ONE + 10_000 * self.rate as u64,
+        };
+        let factor = target.root();
+        let part = 10_000_000_000_000_000_000 / raised(factor, self.days % YEAR) * 10_000;
+        to_centavos(self.discounted(part))
+    }
 }
 
 // The price in hundredths of a point of a dealt rate over the reserve days to the expiry.
+#[tactic(auto, using(crate::proofs::Marked::figures))]
 pub fn trade_price(rate: u32, days: u32) -> Result<u32, Unpriceable>
     ensures price { MatchResult result (λ p. TradePrice rate days p) (λ e. Refused rate days e) }
     ensures figures { FiguresHold }
 {
-    check_limits(rate, days)?;
-    Ok(price_within(rate, days))
+    Ok(Dealt::new(rate, days)?.price())
 }
 
 // The marked figures are what the definitions give.
+#[tactic(auto, using(crate::proofs::Marked::figures))]
 pub fn figures_hold()
     ensures { FiguresHold }
 {}

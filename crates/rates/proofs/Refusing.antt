@@ -13,7 +13,7 @@ pub publish-refused : {X : Type 0} (horizons : X → Horizon) (rates : X → ℕ
 publish-refused horizons rates x day rate period e why = record {
   answers = first-early (day_rows (horizons x) (rates x day) day) (term_rows rate period) e why;
   refused = λ no. refl;
-  horizon-stays = refl;
+  horizon_stays = refl;
   accepted = λ yes. absurd (grind arith);
 }
 

@@ -9,7 +9,7 @@ use Rattle.rates.specs.declared.layer.Arbitrated.{Arbitrated}
 use Rattle.rates.specs.declared.layer.DayRate.{DayRate}
 use Rattle.rates.specs.Horizons.{inside}
 use Rattle.rates.specs.Listed.{listed}
-use Rattle.rates.specs.Publishing.{day_rows, rate_row, Sets}
+use Rattle.rates.specs.Publishing.{day_rows, day_refusal, rate_row, Sets, Published}
 
 -- the first where it is a rate, else the second
 abbrev pub or_else : Option ℕ → Option ℕ → Option ℕ
@@ -26,6 +26,15 @@ layer_horizon horizons x = horizons x.below
 
 abbrev pub layer_rates : {X : Type 0} → (X → Horizon) → (X → ℕ → Option ℕ) → Arbitrated X → ℕ → Option ℕ
 layer_rates horizons rates x = layered (horizons x.below) (rates x.below) (vec_items x.days)
+
+-- a day of a layer may be given a rate
+abbrev pub LayerDayFree : {X : Type 0} → (X → Horizon) → (X → ℕ → Option ℕ) → Arbitrated X → ℕ → Type 0
+LayerDayFree horizons rates x day = None ≡ day_refusal (layer_horizon horizons) (layer_rates horizons rates) x day
+
+-- what a publication does to a layer
+abbrev pub LayerPublished : {X : Type 0} → (X → Horizon) → (X → ℕ → Option ℕ) → Arbitrated X → Arbitrated X → ℕ → ℕ → ℕ → Result (Unit {0}) Refusal → Type 0
+LayerPublished horizons rates before after day rate period r =
+    Published (layer_horizon horizons) (layer_rates horizons rates) before after day rate period r
 
 -- the rate of the day is the arbitrated one
 abbrev pub by_layer : {X : Type 0} → (X → Horizon) → (X → ℕ → Option ℕ) → Arbitrated X → ℕ → Bool

@@ -35,5 +35,5 @@ Sets before day rate after = (d : ℕ) → after d ≡ cond (d == day) (Some rat
 pub record Published {X : Type 0} (horizons : X → Horizon) (rates : X → ℕ → Option ℕ) (before after : X) (day rate period : ℕ) (r : Result (Unit {0}) Refusal) : Type 0 where
   pub answers : result_err r ≡ first_row (publish_rows (horizons before) (rates before day) day rate period)
   pub refused : is_ok r ≡ false → after ≡ before
-  pub horizon-stays : horizons after ≡ horizons before
+  pub horizon_stays : horizons after ≡ horizons before
   pub accepted : is_ok r ≡ true → Sets (rates before) day rate (rates after)

@@ -26,10 +26,6 @@ impl RateSource for FlatSource {
     }
 
     fn rate(&self, day: u32) -> Option<u32> {
-        if self.horizon.holds(day) && self.rate <= HIGHEST_RATE {
-            Some(self.rate)
-        } else {
-            None
-        }
+        (self.horizon.holds(day) && self.rate <= HIGHEST_RATE).then_some(self.rate)
     }
 }

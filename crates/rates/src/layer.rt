@@ -12,6 +12,7 @@ pub struct DayRate {
 }
 
 // Room for sixteen days is reserved.
+// Kept: a list, since an arbitration never fails for memory, as it could with a map.
 #[derive(Drop)]
 pub struct Arbitrated<S> {
     below: S,

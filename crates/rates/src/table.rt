@@ -11,6 +11,7 @@ use std::alloc::{AllocError, Global};
 
 // An entry is 0 where the day has no rate, and otherwise the rate plus one; an entry above the
 // highest rate plus one counts as none.
+// Kept: an entry of 32 bits is the format of a table, in which an Option would take 64.
 #[derive(Drop)]
 pub struct TableSource {
     first: u32,
@@ -21,11 +22,7 @@ pub struct TableSource {
 fn rate_of_entry(entry: u32) -> Option<u32>
     ensures { result ≡ entry_rate entry }
 {
-    if entry == 0 || entry - 1 > HIGHEST_RATE {
-        None
-    } else {
-        Some(entry - 1)
-    }
+    entry.checked_sub(1).filter(|rate| *rate <= HIGHEST_RATE)
 }
 
 // Entries without a rate, for so many days.
@@ -55,7 +52,7 @@ impl TableSource {
     fn count(&self) -> u32
         ensures { result ≡ min (vec_len self.now.entries) 4294967295 }
     {
-        self.entries.len().min(u32::MAX as usize) as u32
+        u32::try_from(self.entries.len()).unwrap_or(u32::MAX)
     }
 }
 

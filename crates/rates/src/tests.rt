@@ -81,10 +81,8 @@ fn sixteen_days(rt: HostRuntime) -> Result<(), Fail> {
 fn published<S: Publishing>(source: &mut S, day: u32, rate: u32) -> Option<u32>
     ensures { is_some result ≡ true → result ≡ Some rate }
 {
-    match source.publish(day, rate, 1) {
-        Ok(()) => source.rate(day),
-        Err(_) => None,
-    }
+    source.publish(day, rate, 1).ok()?;
+    source.rate(day)
 }
 
 #[test]

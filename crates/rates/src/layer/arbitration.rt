@@ -1,8 +1,8 @@
 // What a layer of arbitrated days does.
 ghost use Rattle.std.specs.Prelude.{◌≡◌, ℕ, ◌<◌, ◌≤◌, [], ◌∷◌, ◌++◌, IfOk, IfErr, None, vec_len};
 ghost use Rattle.rates.specs.Listed.{listed};
-ghost use Rattle.rates.specs.Publishing.{day_refusal, Sets, Published};
-ghost use Rattle.rates.specs.Layers.{layer_horizon, layer_rates, by_layer, Ruled};
+ghost use Rattle.rates.specs.Publishing.{Sets};
+ghost use Rattle.rates.specs.Layers.{layer_horizon, layer_rates, by_layer, LayerDayFree, LayerPublished, Ruled};
 ghost use Rattle.rates.specs.Layering.{layer-bounded};
 ghost use Rattle.std.proofs.Common.{rules, arith};
 
@@ -16,15 +16,12 @@ use std::alloc::{AllocFailed, Global};
 pub const MOST_DAYS: usize = 16;
 
 // The rate that was set for a day.
-fn find(days: &Vec<DayRate>, day: u32) -> Option<u32>
-    ensures { result ≡ listed days.now.items day }
+fn find(days: &[DayRate], day: u32) -> Option<u32>
+    ensures { result ≡ listed days.now day }
 {
-    for entry in days.iter() {
-        if entry.day == day {
-            return Some(entry.rate);
-        }
-    }
-    None
+    days.iter()
+        .find(|entry| entry.day == day)
+        .map(|entry| entry.rate)
 }
 
 impl<S: RateSource> Arbitrated<S> {
@@ -34,6 +31,7 @@ impl<S: RateSource> Arbitrated<S> {
         ensures rates { IfOk result (λ x. (d : ℕ) → layer_rates S.RateSource.horizons S.RateSource.rates x d ≡ S.RateSource.rates below d) }
         ensures refused { IfErr result (λ y. y.value ≡ below) }
     {
+        // Kept: both arms give away the source, which two closures cannot both own.
         match Vec::with_capacity(heap, MOST_DAYS) {
             Ok(days) => Ok(Arbitrated { below, days }),
             Err(_) => Err(AllocFailed { value: below }),
@@ -65,10 +63,7 @@ impl<S: RateSource> RateSource for Arbitrated<S> {
         if !self.below.horizon().holds(day) {
             return None;
         }
-        match self.below.rate(day) {
-            Some(rate) => Some(rate),
-            None => find(&self.days, day),
-        }
+        self.below.rate(day).or_else(|| find(&self.days, day))
     }
 }
 
@@ -84,7 +79,7 @@ impl<S: RateSource> Arbitrated<S> {
 
     // Keeps the rate of a day that has none.
     fn keep(&mut self, day: u32, rate: u32)
-        requires free { None ≡ day_refusal (layer_horizon S.RateSource.horizons) (layer_rates S.RateSource.horizons S.RateSource.rates) self.old day }
+        requires free { LayerDayFree S.RateSource.horizons S.RateSource.rates self.old day }
         requires limit { rate ≤ 99999999 }
         requires room { vec_len self.old.days < 16 }
         ensures below { self.new.below ≡ self.old.below }
@@ -113,8 +108,8 @@ impl<S: RateSource> Arbitrated<S> {
 impl<S: Publishing> Arbitrated<S> {
     // Publishes in the source below, for a day without a rate.
     fn publish_below(&mut self, day: u32, rate: u32, period: u32) -> Result<(), Refusal>
-        requires { None ≡ day_refusal (layer_horizon S.RateSource.horizons) (layer_rates S.RateSource.horizons S.RateSource.rates) self.old day }
-        ensures published { Published (layer_horizon S.RateSource.horizons) (layer_rates S.RateSource.horizons S.RateSource.rates) self.old self.new day rate period result }
+        requires { LayerDayFree S.RateSource.horizons S.RateSource.rates self.old day }
+        ensures published { LayerPublished S.RateSource.horizons S.RateSource.rates self.old self.new day rate period result }
         ensures days { self.new.days ≡ self.old.days }
     {
         self.below.publish(day, rate, period)
@@ -123,7 +118,7 @@ impl<S: Publishing> Arbitrated<S> {
 
 impl<S: Publishing> Publishing for Arbitrated<S> {
     fn publish(&mut self, day: u32, rate: u32, period: u32) -> Result<(), Refusal>
-        ensures published { Published (layer_horizon S.RateSource.horizons) (layer_rates S.RateSource.horizons S.RateSource.rates) self.old self.new day rate period result }
+        ensures published { LayerPublished S.RateSource.horizons S.RateSource.rates self.old self.new day rate period result }
         ensures days { self.new.days ≡ self.old.days }
     {
         check_day(self, day)?;

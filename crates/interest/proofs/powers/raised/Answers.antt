@@ -15,11 +15,8 @@ loop-done-init c = sym (power_zero _)
 pub loop-done-preserved : goal.loop-done-preserved
 loop-done-preserved c = rw (add-one, power-suc) (ap (λ x. x * c.args.factor / 1000000000) c.loop-done.invariant)
 
-pub returns : goal.returns
-returns c =
-    let e : c.loop-done.reached ≡ power_of c.args.factor c.args.times = search rules in
-    record {
-      value = e;
-      least = omega (arith, e, power-least c.args.factor c.args.times c.requires.0);
-      most = omega (arith, e, power-most c.args.factor c.args.times c.requires.0 c.requires.1 c.requires.2);
-    }
+pub returns-clause-least : goal.returns-clause-least
+returns-clause-least c = let e : c.loop-done.reached ≡ power_of c.args.factor c.args.times = search rules in omega (arith, e, power-least)
+
+pub returns-clause-most : goal.returns-clause-most
+returns-clause-most c = let e : c.loop-done.reached ≡ power_of c.args.factor c.args.times = search rules in omega (arith, e, power-most)
