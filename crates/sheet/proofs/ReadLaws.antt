@@ -1,8 +1,11 @@
 -- From what reading found to what the bytes are. Assumes nothing.
-use Rattle.std.proofs.Common.{◌≡◌, ℕ, ◌<◌, true, false, List, get_or, is_some, Some, None, Ok, Err, Option, Result, sym, ap, ◌∙◌, subst, arith, w8, Fits, MatchOption}
+use Rattle.std.proofs.Common.{◌≡◌, ℕ, ◌+◌, ◌<◌, true, false, List, [], ◌∷◌, get_or, drop, is_some, Some, None, Ok, Err, Option, Result, inl, inr, sym, ap, ◌∙◌, subst, arith, w8, Fits, MatchOption}
 use Rattle.std.specs.Result as results
 use Rattle.std.proofs.ByRecursion.{All-from_get_or}
+use Rattle.std.specs.List.{slice_get}
 use Rattle.std.proofs.lemmas.Bool.{true≢false, false≢true}
+use Rattle.std.proofs.lemmas.List.{drop_all, drop_more}
+use Rattle.std.proofs.lemmas.Option.{slice_get_cases, slice_get_within, get_or_from_slice_get, none-some}
 use Rattle.sheet.specs.declared.code.ContractCode.{ContractCode}
 use Rattle.sheet.specs.declared.trade.Trade.{Trade}
 use Rattle.sheet.specs.declared.trade.SheetFault.{SheetFault}
@@ -29,6 +32,18 @@ code-missed b (Some c) h e i = true≢false e
 pub trade-found : (b : List ℕ) (r : Option Trade) (t : Trade) → MatchOption r (NoCode b) (λ x. x ≡ t) → IsCode b → r ≡ Some t
 trade-found b None t h i = absurd (h (month_of b) i.0 i.1)
 trade-found b (Some x) t h i = ap Some h
+
+-- ---- the trades that are left from a line on
+
+pub none_left : (ts : List Trade) (i : ℕ) → None ≡ slice_get ts i → drop i ts ≡ []
+none_left ts i e = elim (slice_get_cases ts i).1 [
+  | inl p ↦ absurd (none-some p.0 (e ∙ p.2))
+  | inr p ↦ drop_all i ts p.0
+]
+
+pub one_left : (ts : List Trade) (i : ℕ) (t : Trade) → Some t ≡ slice_get ts i → drop i ts ≡ t ∷ drop (i + 1) ts
+one_left ts i t e =
+    drop_more ts i t (slice_get_within ts i t (sym e)) ∙ ap (λ (x : Trade). x ∷ drop (i + 1) ts) (get_or_from_slice_get ts i t t (sym e))
 
 -- ---- a view over bytes that were found sound
 

@@ -20,7 +20,8 @@ impl SheetView<'_> {
 
     // How many trades there are.
     pub fn count(&self) -> usize
-        ensures { (result ≡ view_count self.now) × (result < 2 ^ 16) }
+        ensures value { (result ≡ view_count self.now) × (result < 2 ^ 16) }
+        ensures sound { Sound self.now }
     {
         self.count as usize
     }
@@ -28,10 +29,10 @@ impl SheetView<'_> {
     // The trade of a line, counted from 0.
     pub fn trade(&self, line: usize) -> Option<Trade>
         ensures past { view_count self.now ≤ line → result ≡ None }
-        ensures value { Sound self.now → result ≡ slice_get (view_trades self.now) line }
+        ensures value { result ≡ slice_get (view_trades self.now) line }
     {
         let count = self.count();
-        if line >= count || self.bytes.len() < 4 + 16 * count {
+        if line >= count {
             return None;
         }
         let sides = 4 + 2 * line;
