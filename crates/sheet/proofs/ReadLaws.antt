@@ -1,5 +1,5 @@
 -- From what reading found to what the bytes are. Assumes nothing.
-use Rattle.std.proofs.Common.{◌≡◌, ℕ, ◌+◌, ◌<◌, true, false, List, [], ◌∷◌, get_or, drop, is_some, Some, None, Ok, Err, Option, Result, inl, inr, sym, ap, ◌∙◌, subst, arith, w8, Fits, MatchOption}
+use Rattle.std.proofs.Common.{◌≡◌, ℕ, ◌+◌, ◌<◌, ◌≤◌, true, false, List, [], ◌∷◌, get_or, drop, is_some, Some, None, Ok, Err, Option, Result, inl, inr, sym, ap, ◌∙◌, subst, arith, w8, Fits, MatchOption}
 use Rattle.std.specs.Result as results
 use Rattle.std.proofs.ByRecursion.{All-from_get_or}
 use Rattle.std.specs.List.{slice_get}
@@ -12,7 +12,7 @@ use Rattle.sheet.specs.declared.trade.SheetFault.{SheetFault}
 use Rattle.sheet.specs.declared.trade.SheetFault.TheVariants.{Length, Count, Day, Code}
 use Rattle.sheet.specs.declared.view.SheetView.{SheetView}
 use Rattle.sheet.specs.Codes.{month_of, IsCode, Names, NoCode}
-use Rattle.sheet.specs.Sheet.{sheet_bytes, Valid, Sheet, Refused, OnDay, day_of, lines_of, trades_of}
+use Rattle.sheet.specs.Sheet.{sheet_bytes, Valid, Sheet, Refused, OnDay, count_of, day_of, code_of, lines_of, trades_of}
 use Rattle.sheet.specs.Views.{view_bytes, view_day, view_trades, Sound, Accepted, Outcome, ReadsBack}
 use Rattle.sheet.proofs.CodeLaws.{is_code}
 use Rattle.sheet.proofs.SheetLaws.{Bytes, length-lines, written_back, read_back, read-valid}
@@ -32,6 +32,15 @@ code-missed b (Some c) h e i = true≢false e
 pub trade-found : (b : List ℕ) (r : Option Trade) (t : Trade) → MatchOption r (NoCode b) (λ x. x ≡ t) → IsCode b → r ≡ Some t
 trade-found b None t h i = absurd (h (month_of b) i.0 i.1)
 trade-found b (Some x) t h i = ap Some h
+
+-- the first line without a code, said without the start of the range
+pub first_bad : (b : List ℕ) (n : ℕ) (r : Option ℕ) → n ≡ count_of b
+    → MatchOption r ((k : ℕ) → 0 ≤ k → k < n → IsCode (code_of b k))
+    (λ i. (0 ≤ i) × (i < n) × (IsCode (code_of b i) → ⊥) × ((k : ℕ) → 0 ≤ k → k < i → IsCode (code_of b k)))
+    → MatchOption r ((k : ℕ) → k < count_of b → IsCode (code_of b k))
+    (λ i. ((k : ℕ) → k < i → IsCode (code_of b k)) × (i < count_of b) × (IsCode (code_of b i) → ⊥))
+first_bad b n None e h = λ k l. h k (omega arith) (omega arith)
+first_bad b n (Some i) e h = (λ k l. h.3 k (omega arith) l, omega (arith, h.1), h.2)
 
 -- ---- the trades that are left from a line on
 

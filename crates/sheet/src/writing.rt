@@ -41,12 +41,7 @@ fn are_coded(trades: &[Trade]) -> bool
     ensures coded { Decides result (AllByRecursion (λ t. t.month ≤ last_month) trades.now) }
     ensures fits { result ≡ true → AllByRecursion FitsLine trades.now }
 {
-    for trade in trades {
-        if !is_coded(*trade) {
-            return false;
-        }
-    }
-    true
+    trades.iter().all(|trade| is_coded(*trade))
 }
 
 // Whether the month of a trade has a code. Its other fields fit their bytes by their types.
@@ -87,9 +82,7 @@ fn write_line(trade: Trade, out: &mut [u8])
     requires coded { trade.month ≤ last_month }
     ensures { out.new ≡ terms trade }
 {
-    let Some(code) = ContractCode::new(trade.month) else {
-        unreachable()
-    };
+    let code = ContractCode::new(trade.month).unwrap();
     out[0..6].copy_from_slice(&code.bytes());
     out[6..10].copy_from_slice(&trade.rate.to_le_bytes());
     out[10..14].copy_from_slice(&trade.quantity.to_le_bytes());

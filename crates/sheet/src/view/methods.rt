@@ -7,7 +7,7 @@ ghost use Rattle.sheet.specs.Views.{view_day, view_count, view_trades, Sound};
 
 use super::SheetView;
 use crate::code::ContractCode;
-use crate::numbers::{number_of_four, number_of_two};
+use crate::numbers::array_of;
 use crate::trade::Trade;
 
 impl SheetView<'_> {
@@ -64,7 +64,7 @@ fn trade_from(sides: &[u8], terms: &[u8]) -> Option<Trade>
         buyer: sides[0],
         seller: sides[1],
         month: code.month(),
-        rate: number_of_four(&terms[6..10]),
-        quantity: number_of_four(&terms[10..14]),
+        rate: u32::from_le_bytes(array_of(&terms[6..10])),
+        quantity: u32::from_le_bytes(array_of(&terms[10..14])),
     })
 }
