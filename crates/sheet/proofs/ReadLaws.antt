@@ -1,15 +1,18 @@
 -- From what reading found to what the bytes are. Assumes nothing.
-use Rattle.std.proofs.Common.{◌≡◌, ℕ, ◌<◌, true, false, List, get_or, is_some, Some, None, Ok, Err, Option, Result, sym, ap, ◌∙◌, subst, arith, w8, Fits, MatchOption}
+use Rattle.std.proofs.Common.{◌≡◌, ℕ, ◌+◌, ◌<◌, ◌≤◌, true, false, List, [], ◌∷◌, get_or, drop, is_some, Some, None, Ok, Err, Option, Result, inl, inr, sym, ap, ◌∙◌, subst, arith, w8, Fits, MatchOption}
 use Rattle.std.specs.Result as results
 use Rattle.std.proofs.ByRecursion.{All-from_get_or}
+use Rattle.std.specs.List.{slice_get}
 use Rattle.std.proofs.lemmas.Bool.{true≢false, false≢true}
+use Rattle.std.proofs.lemmas.List.{drop_all, drop_more}
+use Rattle.std.proofs.lemmas.Option.{slice_get_cases, slice_get_within, get_or_from_slice_get, none-some}
 use Rattle.sheet.specs.declared.code.ContractCode.{ContractCode}
 use Rattle.sheet.specs.declared.trade.Trade.{Trade}
 use Rattle.sheet.specs.declared.trade.SheetFault.{SheetFault}
 use Rattle.sheet.specs.declared.trade.SheetFault.TheVariants.{Length, Count, Day, Code}
 use Rattle.sheet.specs.declared.view.SheetView.{SheetView}
 use Rattle.sheet.specs.Codes.{month_of, IsCode, Names, NoCode}
-use Rattle.sheet.specs.Sheet.{sheet_bytes, Valid, Sheet, Refused, OnDay, day_of, lines_of, trades_of}
+use Rattle.sheet.specs.Sheet.{sheet_bytes, Valid, Sheet, Refused, OnDay, count_of, day_of, code_of, lines_of, trades_of}
 use Rattle.sheet.specs.Views.{view_bytes, view_day, view_trades, Sound, Accepted, Outcome, ReadsBack}
 use Rattle.sheet.proofs.CodeLaws.{is_code}
 use Rattle.sheet.proofs.SheetLaws.{Bytes, length-lines, written_back, read_back, read-valid}
@@ -29,6 +32,27 @@ code-missed b (Some c) h e i = true≢false e
 pub trade-found : (b : List ℕ) (r : Option Trade) (t : Trade) → MatchOption r (NoCode b) (λ x. x ≡ t) → IsCode b → r ≡ Some t
 trade-found b None t h i = absurd (h (month_of b) i.0 i.1)
 trade-found b (Some x) t h i = ap Some h
+
+-- the first line without a code, said without the start of the range
+pub first_bad : (b : List ℕ) (n : ℕ) (r : Option ℕ) → n ≡ count_of b
+    → MatchOption r ((k : ℕ) → 0 ≤ k → k < n → IsCode (code_of b k))
+    (λ i. (0 ≤ i) × (i < n) × (IsCode (code_of b i) → ⊥) × ((k : ℕ) → 0 ≤ k → k < i → IsCode (code_of b k)))
+    → MatchOption r ((k : ℕ) → k < count_of b → IsCode (code_of b k))
+    (λ i. ((k : ℕ) → k < i → IsCode (code_of b k)) × (i < count_of b) × (IsCode (code_of b i) → ⊥))
+first_bad b n None e h = λ k l. h k (omega arith) (omega arith)
+first_bad b n (Some i) e h = (λ k l. h.3 k (omega arith) l, omega (arith, h.1), h.2)
+
+-- ---- the trades that are left from a line on
+
+pub none_left : (ts : List Trade) (i : ℕ) → None ≡ slice_get ts i → drop i ts ≡ []
+none_left ts i e = elim (slice_get_cases ts i).1 [
+  | inl p ↦ absurd (none-some p.0 (e ∙ p.2))
+  | inr p ↦ drop_all i ts p.0
+]
+
+pub one_left : (ts : List Trade) (i : ℕ) (t : Trade) → Some t ≡ slice_get ts i → drop i ts ≡ t ∷ drop (i + 1) ts
+one_left ts i t e =
+    drop_more ts i t (slice_get_within ts i t (sym e)) ∙ ap (λ (x : Trade). x ∷ drop (i + 1) ts) (get_or_from_slice_get ts i t t (sym e))
 
 -- ---- a view over bytes that were found sound
 

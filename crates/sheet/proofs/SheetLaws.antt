@@ -93,25 +93,17 @@ pub length-sheet : (day : ℕ) (ts : List Trade) → length (sheet_bytes day ts)
 unfolding sheet_bytes
 length-sheet day ts = simp length-append (omega (arith, length-joined sides 2 wide-sides ts, length-joined terms 14 wide-terms ts))
 
--- the four parts of a sheet, written one behind the other
-pub sheet-put : (day : ℕ) (ts : List Trade) (old p q r s : List ℕ)
-    → p ≡ little 2 (length ts) → q ≡ little 2 day → r ≡ flat_map sides ts → s ≡ flat_map terms ts
-    → put_mid (4 + 2 * length ts) ((4 + 2 * length ts + 14 * length ts) - (4 + 2 * length ts))
-    (put_mid 4 ((4 + 2 * length ts) - 4) (put_mid 2 2 (p ++ drop 2 old) q) r) s
-    ≡ sheet_bytes day ts ++ drop (4 + 2 * length ts + 14 * length ts) old
+-- the count, the day and the rows of a sheet, written one behind the other
+pub sheet-put : (day : ℕ) (ts : List Trade) (old p q rows : List ℕ)
+    → p ≡ little 2 (length ts) → q ≡ little 2 day → rows ≡ flat_map sides ts ++ flat_map terms ts
+    → put_mid 4 ((4 + 16 * length ts) - 4) (put_mid 2 2 (p ++ drop 2 old) q) rows ≡ sheet_bytes day ts ++ drop (4 + 16 * length ts) old
 unfolding sheet_bytes
-sheet-put day ts old p q r s ep eq er es =
+sheet-put day ts old p q rows ep eq er =
     let n = length ts in
-    let lr : length r ≡ 2 * n = ap length er ∙ length-joined sides 2 wide-sides ts in
-    let k : (4 + 2 * n) - 4 ≡ 2 * n = omega arith in
-    let m : (4 + 2 * n + 14 * n) - (4 + 2 * n) ≡ 14 * n = omega arith in
-    let three = three-parts old p q r 2 2 (2 * n) (ap length ep) (ap length eq) in
-    let l : length (p ++ (q ++ r)) ≡ 4 + 2 * n = simp length-append (omega (arith, ap length ep, ap length eq)) in
-    let four = part-more (p ++ (q ++ r)) old (put_mid 4 (2 * n) (put_mid 2 2 (p ++ drop 2 old) q) r) s (4 + 2 * n) (14 * n) l three in
-    let e = in_four (p ++ (q ++ (r ++ s))) p q r s (q ++ (r ++ s)) (r ++ s) s
-    (little 2 n) (little 2 day) (flat_map sides ts) (flat_map terms ts) refl refl refl refl (sym ep) (sym eq) (sym er) (sym es) in
-    rw (m, k) (four ∙ ap (λ (z : List ℕ). z ++ drop (4 + 2 * n + 14 * n) old)
-    (append_assoc p (q ++ r) s ∙ ap (λ (z : List ℕ). p ++ z) (append_assoc q r s) ∙ e))
+    let k : (4 + 16 * n) - 4 ≡ 16 * n = omega arith in
+    let three = three-parts old p q rows 2 2 (16 * n) (ap length ep) (ap length eq) in
+    rw k (three ∙ ap (λ (z : List ℕ). z ++ drop (4 + 16 * n) old)
+    (same-three p q rows (little 2 n) (little 2 day) (flat_map sides ts ++ flat_map terms ts) ep eq er))
 
 -- the sides and the terms of a line that was written
 pub sides-at : (day : ℕ) (ts : List Trade) (d : Trade) (i : ℕ) → i < length ts → chunk (4 + 2 * i) 2 (sheet_bytes day ts) ≡ sides (get_or ts i d)

@@ -1,4 +1,5 @@
 pub mod Codes
 pub mod Sheet
 pub mod Views
+pub mod Lines
 pub mod Refusals

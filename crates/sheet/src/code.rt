@@ -72,10 +72,7 @@ impl fmt::Display for ContractCode {
 fn digit(byte: u8) -> Option<u32>
     ensures { MatchOption result ((d : ℕ) → d < 10 → byte ≢ 48 + d) (λ d. (d < 10) × (byte ≡ 48 + d)) }
 {
-    match byte {
-        b'0'..=b'9' => Some((byte - b'0') as u32),
-        _ => None,
-    }
+    char::from(byte).to_digit(10)
 }
 
 // The letter of a month of the year.
@@ -83,10 +80,7 @@ fn letter_of(month_of_year: u32) -> char
     requires { month_of_year < 12 }
     ensures { (result ≡ letter_of month_of_year) × (result < 128) }
 {
-    match letter(month_of_year) {
-        Some(c) => c,
-        None => unreachable(),
-    }
+    letter(month_of_year).unwrap()
 }
 
 // The two digits of the year of a month.

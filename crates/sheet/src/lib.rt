@@ -13,5 +13,5 @@ mod writing;
 pub use code::ContractCode;
 pub use letters::{letter, month_of_letter};
 pub use trade::{MOST_TRADES, SheetFault, Trade, WriteFault};
-pub use view::{SheetView, read, read_for};
+pub use view::{SheetView, Trades, read, read_for};
 pub use writing::write;

@@ -1,5 +1,6 @@
 // Codes at the ends of their range, and sheets at each cause of refusal.
 use super::*;
+use refusal::Refusal;
 use std::test::Fail;
 
 #[test]
@@ -10,9 +11,7 @@ fn codes(rt: HostRuntime) -> Result<(), Fail> {
         (335, b"DI1Z27"),
         (1199, b"DI1Z99"),
     ] {
-        let Some(code) = ContractCode::new(month) else {
-            return Err(Fail::new("a month has no code"));
-        };
+        let code = ContractCode::new(month).ok_or_else(|| Fail::new("a month has no code"))?;
         assert!(rt; code.bytes() == *text);
         assert_eq!(rt; ContractCode::from_bytes(text), Some(code));
     }
@@ -27,9 +26,7 @@ fn codes(rt: HostRuntime) -> Result<(), Fail> {
 
 #[test]
 fn shown(rt: HostRuntime) -> Result<(), Fail> {
-    let Some(code) = ContractCode::new(324) else {
-        return Err(Fail::new("a month has no code"));
-    };
+    let code = ContractCode::new(324).ok_or_else(|| Fail::new("a month has no code"))?;
     let text = format!(in rt.alloc(); "{code}")?;
     assert!(rt; text.as_str() == "DI1F27");
     Ok(())
@@ -83,6 +80,10 @@ fn read_back(rt: HostRuntime) -> Result<(), Fail> {
     assert_eq!(rt; view.trade(0), Some(LINES[0]));
     assert_eq!(rt; view.trade(1), Some(LINES[1]));
     assert_eq!(rt; view.trade(2), None);
+    for (line, trade) in view.trades().enumerate() {
+        assert_eq!(rt; view.trade(line), Some(trade));
+    }
+    assert_eq!(rt; view.trades().count(), 2);
     Ok(())
 }
 
@@ -102,15 +103,29 @@ fn refused(rt: HostRuntime) {
 }
 
 fn fault(bytes: &[u8]) -> Option<SheetFault> {
-    match read(bytes) {
-        Ok(_) => None,
-        Err(fault) => Some(fault),
-    }
+    read(bytes).err()
 }
 
 fn fault_for(bytes: &[u8], day: u32) -> Option<SheetFault> {
-    match read_for(bytes, day) {
-        Ok(_) => None,
-        Err(fault) => Some(fault),
-    }
+    read_for(bytes, day).err()
+}
+
+#[test]
+fn faults_said(rt: HostRuntime) -> Result<(), Fail> {
+    let text = format!(in rt.alloc();
+        "{}; {}; {}; {}; {}; {}",
+        SheetFault::Length,
+        SheetFault::Count,
+        SheetFault::Day,
+        SheetFault::Code(1),
+        WriteFault::Short,
+        WriteFault::BadSheet
+    )?;
+    assert!(rt;
+        text.as_str()
+            == "length not that of the count; count over 256; another day; no contract code on line 1; array too short; trades of no sheet"
+    );
+    assert_eq!(rt; Refusal::from(SheetFault::Day), Refusal::BadSheet);
+    assert_eq!(rt; Refusal::from(WriteFault::Short), Refusal::ArrayShort);
+    Ok(())
 }

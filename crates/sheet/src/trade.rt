@@ -1,9 +1,11 @@
 // The lines of a trade sheet, and why one is refused.
-ghost use Rattle.std.specs.Prelude.{◌≡◌};
-ghost use Rattle.sheet.specs.Refusals.{fault_refusal, write_refusal};
+ghost use Rattle.std.specs.Prelude.{◌≡◌, Some};
+ghost use Rattle.sheet.specs.Refusals.{fault_refusal, write_refusal, fault_message, write_message};
 ghost use Rattle.sheet.specs.Sheet.{fault_line};
 
 use refusal::Refusal;
+use std::error::Error;
+use std::fmt;
 
 // The most trades of a sheet.
 pub const MOST_TRADES: u16 = 256;
@@ -37,11 +39,28 @@ impl SheetFault {
             SheetFault::Length | SheetFault::Count | SheetFault::Day => 0,
         }
     }
+}
 
-    // Every fault of a sheet is one refusal.
-    pub fn refusal(self) -> Refusal
-        ensures { result ≡ fault_refusal self }
-    {
+impl fmt::Display for SheetFault {
+    ghost output = { λ fault. Some (fault_message fault) };
+
+    fn fmt<W: fmt::Write>(&self, f: &mut fmt::Formatter<W>) -> fmt::Result {
+        match self {
+            SheetFault::Length => write!(f, "length not that of the count"),
+            SheetFault::Count => write!(f, "count over 256"),
+            SheetFault::Day => write!(f, "another day"),
+            SheetFault::Code(line) => write!(f, "no contract code on line {line}"),
+        }
+    }
+}
+
+impl Error for SheetFault {}
+
+// Every fault of a sheet is one refusal.
+impl From<SheetFault> for Refusal {
+    ghost from_gives = { λ fault refusal. refusal ≡ fault_refusal fault };
+
+    fn from(_fault: SheetFault) -> Refusal {
         Refusal::BadSheet
     }
 }
@@ -53,11 +72,24 @@ pub enum WriteFault {
     BadSheet,
 }
 
-impl WriteFault {
-    pub fn refusal(self) -> Refusal
-        ensures { result ≡ write_refusal self }
-    {
+impl fmt::Display for WriteFault {
+    ghost output = { λ fault. Some (write_message fault) };
+
+    fn fmt<W: fmt::Write>(&self, f: &mut fmt::Formatter<W>) -> fmt::Result {
         match self {
+            WriteFault::Short => write!(f, "array too short"),
+            WriteFault::BadSheet => write!(f, "trades of no sheet"),
+        }
+    }
+}
+
+impl Error for WriteFault {}
+
+impl From<WriteFault> for Refusal {
+    ghost from_gives = { λ fault refusal. refusal ≡ write_refusal fault };
+
+    fn from(fault: WriteFault) -> Refusal {
+        match fault {
             WriteFault::Short => Refusal::ArrayShort,
             WriteFault::BadSheet => Refusal::BadSheet,
         }

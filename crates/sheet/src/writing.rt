@@ -20,12 +20,10 @@ pub fn write(day: u16, trades: &[Trade], out: &mut [u8]) -> Result<usize, WriteF
     if count > MOST_TRADES as usize || !are_coded(trades) {
         return Err(WriteFault::BadSheet);
     }
-    let terms = 4 + 2 * count;
-    let end = terms + 14 * count;
+    let end = 4 + 16 * count;
     out[0..2].copy_from_slice(&(count as u16).to_le_bytes());
     out[2..4].copy_from_slice(&day.to_le_bytes());
-    write_sides(trades, &mut out[4..terms]);
-    write_terms(trades, &mut out[terms..end]);
+    write_rows(trades, &mut out[4..end]);
     Ok(end)
 }
 
@@ -41,12 +39,7 @@ fn are_coded(trades: &[Trade]) -> bool
     ensures coded { Decides result (AllByRecursion (λ t. t.month ≤ last_month) trades.now) }
     ensures fits { result ≡ true → AllByRecursion FitsLine trades.now }
 {
-    for trade in trades {
-        if !is_coded(*trade) {
-            return false;
-        }
-    }
-    true
+    trades.iter().all(|trade| is_coded(*trade))
 }
 
 // Whether the month of a trade has a code. Its other fields fit their bytes by their types.
@@ -57,39 +50,27 @@ fn is_coded(trade: Trade) -> bool
     ContractCode::new(trade.month).is_some()
 }
 
-// Writes the sides of each trade, one after the other.
-fn write_sides(trades: &[Trade], out: &mut [u8])
-    requires { length out.old ≡ 2 * length trades.now }
-    ensures { out.new ≡ flat_map sides trades.now }
-{
-    for line in 0..trades.len() {
-        let at = 2 * line;
-        let trade = trades[line];
-        out[at..at + 2].copy_from_slice(&[trade.buyer, trade.seller]);
-    }
-}
-
-// Writes the terms of each trade, one after the other.
-fn write_terms(trades: &[Trade], out: &mut [u8])
-    requires room { length out.old ≡ 14 * length trades.now }
+// Writes the sides of each trade, and behind them the terms of each.
+fn write_rows(trades: &[Trade], rows: &mut [u8])
+    requires room { length rows.old ≡ 16 * length trades.now }
     requires coded { AllByRecursion (λ t. t.month ≤ last_month) trades.now }
-    ensures { out.new ≡ flat_map terms trades.now }
+    ensures { rows.new ≡ flat_map sides trades.now ++ flat_map terms trades.now }
 {
-    for line in 0..trades.len() {
-        let at = 14 * line;
-        write_line(trades[line], &mut out[at..at + 14]);
+    let (side_rows, term_rows) = rows.split_at_mut(2 * trades.len());
+    for (line, trade) in trades.iter().enumerate() {
+        let (side, term) = (2 * line, 14 * line);
+        side_rows[side..side + 2].copy_from_slice(&[trade.buyer, trade.seller]);
+        write_terms(*trade, &mut term_rows[term..term + 14]);
     }
 }
 
 // Writes the terms of a trade.
-fn write_line(trade: Trade, out: &mut [u8])
+fn write_terms(trade: Trade, out: &mut [u8])
     requires room { length out.old ≡ 14 }
     requires coded { trade.month ≤ last_month }
     ensures { out.new ≡ terms trade }
 {
-    let Some(code) = ContractCode::new(trade.month) else {
-        unreachable()
-    };
+    let code = ContractCode::new(trade.month).unwrap();
     out[0..6].copy_from_slice(&code.bytes());
     out[6..10].copy_from_slice(&trade.rate.to_le_bytes());
     out[10..14].copy_from_slice(&trade.quantity.to_le_bytes());

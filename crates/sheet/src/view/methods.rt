@@ -7,7 +7,7 @@ ghost use Rattle.sheet.specs.Views.{view_day, view_count, view_trades, Sound};
 
 use super::SheetView;
 use crate::code::ContractCode;
-use crate::numbers::{number_of_four, number_of_two};
+use crate::numbers::array_of;
 use crate::trade::Trade;
 
 impl SheetView<'_> {
@@ -20,7 +20,8 @@ impl SheetView<'_> {
 
     // How many trades there are.
     pub fn count(&self) -> usize
-        ensures { (result ≡ view_count self.now) × (result < 2 ^ 16) }
+        ensures value { (result ≡ view_count self.now) × (result < 2 ^ 16) }
+        ensures sound { Sound self.now }
     {
         self.count as usize
     }
@@ -28,10 +29,10 @@ impl SheetView<'_> {
     // The trade of a line, counted from 0.
     pub fn trade(&self, line: usize) -> Option<Trade>
         ensures past { view_count self.now ≤ line → result ≡ None }
-        ensures value { Sound self.now → result ≡ slice_get (view_trades self.now) line }
+        ensures value { result ≡ slice_get (view_trades self.now) line }
     {
         let count = self.count();
-        if line >= count || self.bytes.len() < 4 + 16 * count {
+        if line >= count {
             return None;
         }
         let sides = 4 + 2 * line;
@@ -63,7 +64,7 @@ fn trade_from(sides: &[u8], terms: &[u8]) -> Option<Trade>
         buyer: sides[0],
         seller: sides[1],
         month: code.month(),
-        rate: number_of_four(&terms[6..10]),
-        quantity: number_of_four(&terms[10..14]),
+        rate: u32::from_le_bytes(array_of(&terms[6..10])),
+        quantity: u32::from_le_bytes(array_of(&terms[10..14])),
     })
 }

@@ -7,7 +7,7 @@ ghost use Rattle.sheet.specs.Views.{view_bytes, view_day, Sound, Outcome, ReadsB
 use super::SheetView;
 use super::methods::terms_of;
 use crate::code::ContractCode;
-use crate::numbers::number_of_two;
+use crate::numbers::array_of;
 use crate::trade::{MOST_TRADES, SheetFault};
 
 // The sheet that these bytes are.
@@ -31,7 +31,7 @@ fn read_on(bytes: &[u8], ticket: Option<u32>) -> Result<SheetView<'_>, SheetFaul
     ensures { MatchResult result (λ v. (view_bytes v ≡ bytes.now) × Sound v × OnDay ticket (view_day v)) (Refused bytes.now ticket) }
 {
     let count = framed(bytes)?;
-    let day = number_of_two(&bytes[2..4]);
+    let day = u16::from_le_bytes(array_of(&bytes[2..4]));
     if !is_on(ticket, day as u32) {
         return Err(SheetFault::Day);
     }
@@ -48,7 +48,7 @@ fn framed(bytes: &[u8]) -> Result<u16, SheetFault>
     if bytes.len() < 4 {
         return Err(SheetFault::Length);
     }
-    let count = number_of_two(&bytes[0..2]);
+    let count = u16::from_le_bytes(array_of(&bytes[0..2]));
     if count > MOST_TRADES {
         return Err(SheetFault::Count);
     }
@@ -62,10 +62,7 @@ fn framed(bytes: &[u8]) -> Result<u16, SheetFault>
 fn is_on(ticket: Option<u32>, day: u32) -> bool
     ensures { Decides result (OnDay ticket day) }
 {
-    match ticket {
-        Some(of_ticket) => day == of_ticket,
-        None => true,
-    }
+    ticket.is_none_or(|of_ticket| day == of_ticket)
 }
 
 // The first line whose code is none.
@@ -74,11 +71,16 @@ fn first_bad_line(bytes: &[u8], count: u16) -> Option<u32>
     requires count { count ≡ count_of bytes.now }
     ensures { MatchOption result ((line : ℕ) → line < count_of bytes.now → IsCode (code_of bytes.now line)) (λ line. ((k : ℕ) → k < line → IsCode (code_of bytes.now k)) × (line < count_of bytes.now) × (IsCode (code_of bytes.now line) → ⊥)) }
 {
-    for line in 0..count {
-        let terms = terms_of(bytes, count as usize, line as usize);
-        if ContractCode::from_bytes(&terms[0..6]).is_none() {
-            return Some(line as u32);
-        }
-    }
-    None
+    (0..count as u32).find(|line| !has_code(bytes, count, *line))
+}
+
+// Whether a line has a code.
+fn has_code(bytes: &[u8], count: u16, line: u32) -> bool
+    requires framed { Framed bytes.now }
+    requires count { count ≡ count_of bytes.now }
+    requires within { line < count }
+    ensures { Decides result (IsCode (code_of bytes.now line)) }
+{
+    let terms = terms_of(bytes, count as usize, line as usize);
+    ContractCode::from_bytes(&terms[0..6]).is_some()
 }

@@ -1,40 +1,28 @@
-use Rattle.std.proofs.Common.{◌≡◌, ℕ, ◌+◌, ◌-◌, ◌*◌, ◌<◌, List, take, drop, Some, sym, refl, ap, ◌∙◌, subst, arith}
+use Rattle.std.proofs.Common.{◌≡◌, ℕ, ◌+◌, ◌-◌, ◌*◌, ◌<◌, List, take, drop, Some, sym, ap, ◌∙◌, subst, arith}
 use Rattle.sheet.specs.Codes.{IsCode}
 use Rattle.sheet.specs.Sheet.{trade_from, sides_at, terms_at, code_of}
 use Rattle.sheet.proofs.SheetLaws.{line_at, line-past}
 use Rattle.sheet.proofs.ReadLaws.{trade-found}
 use Rattle.sheet.proofs.view.SheetView.trade.Goals as goal
-use Rattle.sheet.proofs.view.SheetView.trade.Goals.{then-line-count-via-then-line-count, then-line-count-via-else-line-count+then-self-count}
 
-pub returns-then-line-count : goal.returns-then-line-count
-returns-then-line-count c =
-    let n = c.count-count.ensures.0 in
-    record {
-      past = λ _. refl;
-      value = λ s. elim c.then-line-count.branch [
-        | then-line-count-via-then-line-count w ↦ sym (line-past c.args.self.now.count c.args.self.now.bytes.now c.args.line (omega (arith, w.if-line-count.true)))
-        | then-line-count-via-else-line-count+then-self-count w ↦ absurd (omega (arith, w.if-self-count.true, s.0.0.2, s.1))
-      ];
-    }
+pub returns-then-line-count-clause-value : goal.returns-then-line-count-clause-value
+returns-then-line-count-clause-value c =
+    sym (line-past c.args.self.now.count c.args.self.now.bytes.now c.args.line (omega (arith, c.count-count.ensures.value.0, c.if-line-count.true)))
 
-pub returns : goal.returns
-returns c =
+pub returns-clause-value : goal.returns-clause-value
+returns-clause-value c =
     let v = c.args.self.now in
-    let b = c.args.self.now.bytes.now in
+    let b = v.bytes.now in
     let i = c.args.line in
-    let count : c.count-count.result ≡ v.count = c.count-count.ensures.0 in
+    let n = v.counted in
+    let count : c.count-count.result ≡ v.count = c.count-count.ensures.value.0 in
     let within : i < v.count = omega (arith, c.if-line-count.false) in
     let terms = c.terms_of.result.now in
     let k : (4 + 2 * i + 2) - (4 + 2 * i) ≡ 2 = omega arith in
     let t : terms ≡ terms_at v.count b i = c.terms_of.ensures.value ∙ ap (λ (n : ℕ). terms_at n b i) count in
-    record {
-      past = λ h. absurd (omega arith);
-      value = λ s.
-          let n = s.1 in
-          let e : code_of b i ≡ take 6 terms = cc in
-          let o : IsCode (take 6 terms) = subst IsCode e (s.0.1 i (omega arith)) in
-          trade-found (take 6 terms) c.trade_from.result (trade_from (take ((4 + 2 * i + 2) - (4 + 2 * i)) (drop (4 + 2 * i) b)) terms) c.trade_from.ensures o
-          ∙ ap (λ (x : ℕ). Some (trade_from (take x (drop (4 + 2 * i) b)) terms)) k
-          ∙ ap (λ (x : List ℕ). Some (trade_from (sides_at b i) x)) t
-          ∙ sym (line_at v.count b i within);
-    }
+    let e : code_of b i ≡ take 6 terms = cc in
+    let o : IsCode (take 6 terms) = subst IsCode e (v.sheet.1 i (omega arith)) in
+    trade-found (take 6 terms) c.trade_from.result (trade_from (take ((4 + 2 * i + 2) - (4 + 2 * i)) (drop (4 + 2 * i) b)) terms) c.trade_from.ensures o
+    ∙ ap (λ (x : ℕ). Some (trade_from (take x (drop (4 + 2 * i) b)) terms)) k
+    ∙ ap (λ (x : List ℕ). Some (trade_from (sides_at b i) x)) t
+    ∙ sym (line_at v.count b i within)

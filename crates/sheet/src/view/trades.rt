@@ -1,0 +1,41 @@
+// The trades of a sheet, from its first line to its last.
+ghost use Rattle.std.specs.Prelude.{◌≡◌};
+ghost use Rattle.std.specs.Iterator.{YieldsFirst, item_count};
+ghost use Rattle.sheet.specs.Views.{view_trades};
+ghost use Rattle.sheet.specs.Lines.{trades_left};
+
+use super::SheetView;
+use crate::trade::Trade;
+
+// The trades of a sheet from a line on.
+#[derive(Clone, Debug, Drop)]
+pub struct Trades<'a> {
+    view: SheetView<'a>,
+    line: usize,
+}
+
+impl<'a> SheetView<'a> {
+    // The trades, in the order of their lines.
+    pub fn trades(&self) -> Trades<'a>
+        ensures { trades_left result ≡ view_trades self.now }
+    {
+        Trades {
+            view: *self,
+            line: 0,
+        }
+    }
+}
+
+impl Iterator for Trades<'_> {
+    type Item = Trade;
+
+    ghost next_gives = { YieldsFirst trades_left };
+
+    ghost remaining = { item_count trades_left };
+
+    fn next(&mut self) -> Option<Trade> {
+        let trade = self.view.trade(self.line)?;
+        self.line += 1;
+        Some(trade)
+    }
+}
