@@ -1,11 +1,13 @@
 -- The units of what is left of the trades, a trade at a time.
-use Rattle.std.proofs.Common.{◌≡◌, ℕ, zero, suc, ◌+◌, ◌-◌, ◌*◌, ◌<◌, ◌≤◌, min, List, [], ◌∷◌, ◌++◌, length, get_or, take, drop, replicate, pos, ◌-ℤ◌, sum, refl, ◌∙◌, suc-mul, zero-add, zero-mul, arith, length-append}
+use Rattle.std.proofs.Common.{◌≡◌, ℕ, zero, suc, ◌+◌, ◌-◌, ◌*◌, ◌<◌, ◌≤◌, min, List, [], ◌∷◌, ◌++◌, length, get_or, take, drop, replicate, pos, ◌-ℤ◌, sum, sum_by, refl, ◌∙◌, suc-mul, zero-add, zero-mul, arith, length-append}
 use native.Mathlib.Nat.{sub-zero}
 use lib.ListN.{length-replicate}
 use borrow.Author.Differences.{ints}
 use Rattle.std.proofs.lemmas.List.{at_drop_more, at_drop_all}
 use Rattle.std.proofs.lemmas.List.Sums.{sum_by-cons}
-use Rattle.settlement.specs.Trades.{lots_of, position_change}
+use Rattle.std.proofs.ByRecursion.{All-weaker, sum_by_le}
+use Rattle.settlement.specs.Trades.{lots_of, position_change, Limited}
+use Rattle.settlement.proofs.Bounds.{lots-most}
 use Rattle.settlement.specs.DayTrades.{units, firsts}
 use Rattle.settlement.specs.declared.trades.Side.{Side}
 use Rattle.settlement.specs.declared.trades.Side.TheVariants.{Bought, Sold}
@@ -26,6 +28,20 @@ module _ (s : Side) (account month : ℕ) where
       → length (units s account month (t ∷ ts)) ≡ lots_of s account month t + length (units s account month ts)
   unfolding units
   length-first t ts = rw (length-append, length-replicate)
+
+  -- as many units as lots
+  pub units-length : (ts : List Trade) → length (units s account month ts) ≡ sum_by (lots_of s account month) ts
+  unfolding units
+  units-length [] = refl
+  units-length (t ∷ ts) = let c = sum_by-cons (lots_of s account month) t ts in rw (length-first t ts, c, units-length ts)
+
+  -- the lots of limited trades are few
+  pub lots-few : (ts : List Trade) → Limited ts → sum_by (lots_of s account month) ts ≤ 5120000
+  lots-few ts l =
+      let few = l.few in
+      let k = sum_by_le (lots_of s account month) 20000 ts
+          (All-weaker (λ t. t.quantity ≤ 20000) (λ t. lots_of s account month t ≤ 20000) (λ t h. let m = lots-most s account month t in omega arith) ts l.small) in
+      omega arith
 
 module _ (s : Side) (account month : ℕ) (ts : List Trade) (i : ℕ) (d : Trade) where
   pub length_more : i < length ts
