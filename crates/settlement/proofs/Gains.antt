@@ -6,7 +6,8 @@ use Rattle.settlement.specs.Amounts.{gain_of, on_trades}
 use Rattle.settlement.proofs.Totals.{total-append, total-reverse, total-more, total-end}
 
 module _ (account month price : ℕ) where
-  abbrev gained : Trade → ℤ
+  -- a trade, from its own price to the settlement price
+  abbrev pub gained : Trade → ℤ
   gained t = gain_of (contracts_of account month t) price t.price
 
   pub trades-more : (ts : List Trade) (i : ℕ) (d : Trade) → i < length ts

@@ -34,11 +34,7 @@ impl SessionTrades<'_> {
         ensures value { result ≡ on_trades whose.account whose.month price self.now.trades.now }
         ensures most { unsigned_abs result ≤ 256 * 20000 * 4294967296 }
     {
-        let mut sum: i64 = 0;
-        for trade in self.trades {
-            sum += on_trade(*trade, whose, price);
-        }
-        sum
+        self.trades.iter().map(|trade| on_trade(*trade, whose, price)).sum()
     }
 }
 
