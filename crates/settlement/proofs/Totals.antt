@@ -1,11 +1,11 @@
--- Sums with sign over lists: one element on, two lists joined, a list turned round.
-use Rattle.std.proofs.Common.{◌≡◌, ℕ, ◌+◌, ◌*◌, ◌<◌, ◌≤◌, List, [], ◌∷◌, ◌++◌, reverse, length, get_or, drop, ℤ, pos, ◌+ℤ◌, ◌-ℤ◌, ◌*ℤ◌, nat_abs, Option, Some, map, fold, sym, refl, ap, ◌∙◌, mul-le-mul_right, arith}
+-- Sums with sign over lists: two lists joined, a list turned round, how great they are, and the sum of an iterator.
+use Rattle.std.proofs.Common.{◌≡◌, ℕ, ◌+◌, ◌*◌, ◌≤◌, List, [], ◌∷◌, ◌++◌, reverse, length, ℤ, pos, ◌+ℤ◌, ◌-ℤ◌, ◌*ℤ◌, nat_abs, Option, Some, map, fold, sym, refl, ap, ◌∙◌, mul-le-mul_right, arith}
 use lib.IntN.{zero-*ℤ}
 use borrow.Author.Differences.{ints}
 use Rattle.std.specs.Iterator.{Yields}
 use Rattle.std.specs.Iterator.Runs.{Run, YieldsRun}
 use Rattle.std.specs.List.{AllByRecursion}
-use Rattle.std.proofs.lemmas.List.{at_drop_more, at_drop_all, reverse-append}
+use Rattle.std.proofs.lemmas.List.{reverse-append}
 use Rattle.settlement.specs.Sums.{total}
 use Rattle.interest.proofs.Ring.{dist-r}
 
@@ -18,13 +18,6 @@ module _ {X : Type 0} (f : X → ℤ) where
   total-reverse [] = refl
   total-reverse (x ∷ xs) =
       ap (total f) (reverse-append (x ∷ []) xs) ∙ total-append (reverse xs) (x ∷ []) ∙ omega (arith, ints, total-reverse xs)
-
-  -- what is left from an element on
-  pub total-more : (xs : List X) (i : ℕ) (d : X) → i < length xs → total f (drop i xs) ≡ f (get_or xs i d) +ℤ total f (drop (i + 1) xs)
-  total-more xs i d h = at_drop_more (total f) xs i d h
-
-  pub total-end : (xs : List X) (i : ℕ) → length xs ≤ i → total f (drop i xs) ≡ pos 0
-  total-end xs i h = at_drop_all (total f) xs i h
 
   pub total_size : (m : ℕ) (xs : List X) → AllByRecursion (λ x. nat_abs (f x) ≤ m) xs → nat_abs (total f xs) ≤ length xs * m
   total_size m [] h = omega arith

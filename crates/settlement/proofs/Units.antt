@@ -1,4 +1,4 @@
--- The units of what is left of the trades, a trade at a time.
+-- The units of trades: how many they are, and the first of them, a trade at a time.
 use Rattle.std.proofs.Common.{◌≡◌, ℕ, zero, suc, ◌+◌, ◌-◌, ◌*◌, ◌<◌, ◌≤◌, min, List, [], ◌∷◌, ◌++◌, length, get_or, take, drop, replicate, pos, ◌-ℤ◌, sum, sum_by, refl, ◌∙◌, suc-mul, zero-add, zero-mul, arith, length-append}
 use native.Mathlib.Nat.{sub-zero}
 use lib.ListN.{length-replicate}
@@ -12,6 +12,10 @@ use Rattle.settlement.specs.DayTrades.{units, firsts}
 use Rattle.settlement.specs.declared.trades.Side.{Side}
 use Rattle.settlement.specs.declared.trades.Side.TheVariants.{Bought, Sold}
 use Rattle.settlement.specs.declared.trades.Trade.{Trade}
+
+-- what stands past the end of a list
+abbrev pub no_trade : Trade
+no_trade = record { buyer = 0; seller = 0; month = 0; rate = 0; quantity = 0; price = 0 }
 
 -- of q units at p and more: at most q of the first l are those
 pub sum-front : (q l p : ℕ) (us : List ℕ) → sum (take l (replicate q p ++ us)) ≡ min q l * p + sum (take (l - min q l) us)
@@ -44,10 +48,6 @@ module _ (s : Side) (account month : ℕ) where
       omega arith
 
 module _ (s : Side) (account month : ℕ) (ts : List Trade) (i : ℕ) (d : Trade) where
-  pub length_more : i < length ts
-      → length (units s account month (drop i ts)) ≡ lots_of s account month (get_or ts i d) + length (units s account month (drop (i + 1) ts))
-  length_more h = at_drop_more (λ xs. length (units s account month xs)) ts i d h ∙ length-first s account month (get_or ts i d) (drop (i + 1) ts)
-
   pub firsts_more : (l : ℕ) → i < length ts
       → firsts s account month l (drop i ts)
       ≡ min (lots_of s account month (get_or ts i d)) l * (get_or ts i d).price
@@ -58,10 +58,6 @@ module _ (s : Side) (account month : ℕ) (ts : List Trade) (i : ℕ) (d : Trade
       ∙ sum-front (lots_of s account month (get_or ts i d)) l (get_or ts i d).price (units s account month (drop (i + 1) ts))
 
 module _ (s : Side) (account month : ℕ) (ts : List Trade) (i : ℕ) where
-  pub length-end : length ts ≤ i → length (units s account month (drop i ts)) ≡ 0
-  unfolding units
-  length-end h = at_drop_all (λ xs. length (units s account month xs)) ts i h
-
   none : (l : ℕ) → firsts s account month l [] ≡ 0
   unfolding units firsts
   none zero = refl

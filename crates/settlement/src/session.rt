@@ -14,19 +14,12 @@ pub(crate) struct SessionTrades<'a> {
     ghost limited: { Limited trades.now } by { Prim.hlevel props },
 }
 
-// Whether the trades are few and small enough.
-fn are_limited(trades: &[Trade]) -> bool
-    ensures { Decides result (Limited trades.now) }
-{
-    trades.len() <= MOST_TRADES && trades.iter().all(|trade| trade.quantity <= MOST_QUANTITY)
-}
-
 impl<'a> SessionTrades<'a> {
     // The trades, if they are few and small enough.
     pub(crate) fn new(trades: &'a [Trade]) -> Option<SessionTrades<'a>>
         ensures { MatchOption result (¬ Limited trades.now) (λ s. s.trades.now ≡ trades.now) }
     {
-        if !are_limited(trades) {
+        if trades.len() > MOST_TRADES || trades.iter().any(|trade| trade.quantity > MOST_QUANTITY) {
             return None;
         }
         Some(SessionTrades { trades })

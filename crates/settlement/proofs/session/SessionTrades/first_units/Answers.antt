@@ -1,17 +1,11 @@
 use Rattle.std.proofs.Common.{◌≡◌, ℕ, ◌*◌, ◌^◌, ◌<◌, ◌≤◌, min, get_or, mul-le-mul_left, arith}
 use Rattle.settlement.specs.Trades.{lots_of}
-use Rattle.settlement.proofs.Limits.{no_trade}
-use Rattle.settlement.proofs.Units.{firsts_more, firsts-end}
+use Rattle.settlement.proofs.Units.{no_trade, firsts_more, firsts-end}
 use Rattle.settlement.proofs.session.SessionTrades.first_units.Goals as goal
 
 -- n contracts at a price of 32 bits
 cost : (n p : ℕ) → p < 2 ^ 32 → n * p ≤ n * 4294967296
 cost n p h = let k : p ≤ 4294967296 = omega arith in mul-le-mul_left n k
-
-pub overflow_add-sum : goal.overflow_add-sum
-overflow_add-sum c =
-    let h = cost c.min-taken.result (get_or c.args.self.now.trades.now c.loop-trade.trade-index no_trade).price (omega arith) in
-    record { fits = omega arith }
 
 pub loop-trade-preserved : goal.loop-trade-preserved
 loop-trade-preserved c =
