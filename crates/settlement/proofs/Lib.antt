@@ -1,7 +1,6 @@
 pub mod Bounds
 pub mod Gains
 pub mod Laws
-pub mod Limits
 pub mod Signs
 pub mod Totals
 pub mod Units

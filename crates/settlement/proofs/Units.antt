@@ -1,15 +1,21 @@
--- The units of what is left of the trades, a trade at a time.
-use Rattle.std.proofs.Common.{◌≡◌, ℕ, zero, suc, ◌+◌, ◌-◌, ◌*◌, ◌<◌, ◌≤◌, min, List, [], ◌∷◌, ◌++◌, length, get_or, take, drop, replicate, pos, ◌-ℤ◌, sum, refl, ◌∙◌, suc-mul, zero-add, zero-mul, arith, length-append}
+-- The units of trades: how many they are, and the first of them, a trade at a time.
+use Rattle.std.proofs.Common.{◌≡◌, ℕ, zero, suc, ◌+◌, ◌-◌, ◌*◌, ◌<◌, ◌≤◌, min, List, [], ◌∷◌, ◌++◌, length, get_or, take, drop, replicate, pos, ◌-ℤ◌, sum, sum_by, refl, ◌∙◌, suc-mul, zero-add, zero-mul, arith, length-append}
 use native.Mathlib.Nat.{sub-zero}
 use lib.ListN.{length-replicate}
 use borrow.Author.Differences.{ints}
 use Rattle.std.proofs.lemmas.List.{at_drop_more, at_drop_all}
 use Rattle.std.proofs.lemmas.List.Sums.{sum_by-cons}
-use Rattle.settlement.specs.Trades.{lots_of, position_change}
+use Rattle.std.proofs.ByRecursion.{All-weaker, sum_by_le}
+use Rattle.settlement.specs.Trades.{lots_of, position_change, Limited}
+use Rattle.settlement.proofs.Bounds.{lots-most}
 use Rattle.settlement.specs.DayTrades.{units, firsts}
 use Rattle.settlement.specs.declared.trades.Side.{Side}
 use Rattle.settlement.specs.declared.trades.Side.TheVariants.{Bought, Sold}
 use Rattle.settlement.specs.declared.trades.Trade.{Trade}
+
+-- what stands past the end of a list
+abbrev pub no_trade : Trade
+no_trade = record { buyer = 0; seller = 0; month = 0; rate = 0; quantity = 0; price = 0 }
 
 -- of q units at p and more: at most q of the first l are those
 pub sum-front : (q l p : ℕ) (us : List ℕ) → sum (take l (replicate q p ++ us)) ≡ min q l * p + sum (take (l - min q l) us)
@@ -27,11 +33,21 @@ module _ (s : Side) (account month : ℕ) where
   unfolding units
   length-first t ts = rw (length-append, length-replicate)
 
-module _ (s : Side) (account month : ℕ) (ts : List Trade) (i : ℕ) (d : Trade) where
-  pub length_more : i < length ts
-      → length (units s account month (drop i ts)) ≡ lots_of s account month (get_or ts i d) + length (units s account month (drop (i + 1) ts))
-  length_more h = at_drop_more (λ xs. length (units s account month xs)) ts i d h ∙ length-first s account month (get_or ts i d) (drop (i + 1) ts)
+  -- as many units as lots
+  pub units-length : (ts : List Trade) → length (units s account month ts) ≡ sum_by (lots_of s account month) ts
+  unfolding units
+  units-length [] = refl
+  units-length (t ∷ ts) = let c = sum_by-cons (lots_of s account month) t ts in rw (length-first t ts, c, units-length ts)
 
+  -- the lots of limited trades are few
+  pub lots-few : (ts : List Trade) → Limited ts → sum_by (lots_of s account month) ts ≤ 5120000
+  lots-few ts l =
+      let few = l.few in
+      let k = sum_by_le (lots_of s account month) 20000 ts
+          (All-weaker (λ t. t.quantity ≤ 20000) (λ t. lots_of s account month t ≤ 20000) (λ t h. let m = lots-most s account month t in omega arith) ts l.small) in
+      omega arith
+
+module _ (s : Side) (account month : ℕ) (ts : List Trade) (i : ℕ) (d : Trade) where
   pub firsts_more : (l : ℕ) → i < length ts
       → firsts s account month l (drop i ts)
       ≡ min (lots_of s account month (get_or ts i d)) l * (get_or ts i d).price
@@ -42,10 +58,6 @@ module _ (s : Side) (account month : ℕ) (ts : List Trade) (i : ℕ) (d : Trade
       ∙ sum-front (lots_of s account month (get_or ts i d)) l (get_or ts i d).price (units s account month (drop (i + 1) ts))
 
 module _ (s : Side) (account month : ℕ) (ts : List Trade) (i : ℕ) where
-  pub length-end : length ts ≤ i → length (units s account month (drop i ts)) ≡ 0
-  unfolding units
-  length-end h = at_drop_all (λ xs. length (units s account month xs)) ts i h
-
   none : (l : ℕ) → firsts s account month l [] ≡ 0
   unfolding units firsts
   none zero = refl

@@ -1,10 +1,11 @@
 // Amounts at the settlement price, in centavos.
-ghost use Rattle.std.specs.Prelude.{◌≡◌, ◌*◌, ◌≤◌, IfSome, Decides, unsigned_abs};
+ghost use Rattle.std.specs.Prelude.{◌≡◌, ◌*◌, ◌≤◌, IfSome, unsigned_abs};
 ghost use Rattle.std.specs.Option.{SomeIff};
-ghost use Rattle.settlement.specs.Trades.{contracts_of, Limited};
+ghost use Rattle.settlement.specs.Trades.{contracts_of};
 ghost use Rattle.settlement.specs.Amounts.{gain_of, on_trades, on_carried, adjustment_of, InRange};
 
-use crate::trades::{Trade, are_limited, contracts_of};
+use crate::session::SessionTrades;
+use crate::trades::{AccountMonth, Trade, contracts_of};
 
 // The most contracts of a position, bought or sold.
 pub const MOST_CARRIED: u32 = 500_000;
@@ -19,25 +20,22 @@ fn gain(contracts: i64, price: u32, before: u32) -> i64
 }
 
 // What a trade of the session gains to the settlement price.
-fn on_trade(trade: Trade, account: u8, month: u8, price: u32) -> i64
+fn on_trade(trade: Trade, whose: AccountMonth, price: u32) -> i64
     requires { trade.quantity ≤ 20000 }
-    ensures value { result ≡ gain_of (contracts_of account month trade) price trade.price }
+    ensures value { result ≡ gain_of (contracts_of whose.account whose.month trade) price trade.price }
     ensures most { unsigned_abs result ≤ 20000 * 4294967296 }
 {
-    gain(contracts_of(trade, account, month), price, trade.price)
+    gain(contracts_of(trade, whose), price, trade.price)
 }
 
-// What the trades of the session gain to the settlement price.
-fn on_trades(trades: &[Trade], account: u8, month: u8, price: u32) -> i64
-    requires { Limited trades.now }
-    ensures value { result ≡ on_trades account month price trades.now }
-    ensures most { unsigned_abs result ≤ 256 * 20000 * 4294967296 }
-{
-    let mut sum: i64 = 0;
-    for trade in trades {
-        sum += on_trade(*trade, account, month, price);
+impl SessionTrades<'_> {
+    // What the trades gain to the settlement price.
+    fn on_trades(&self, whose: AccountMonth, price: u32) -> i64
+        ensures value { result ≡ on_trades whose.account whose.month price self.now.trades.now }
+        ensures most { unsigned_abs result ≤ 256 * 20000 * 4294967296 }
+    {
+        self.trades.iter().map(|trade| on_trade(*trade, whose, price)).sum()
     }
-    sum
 }
 
 // What a position gains from its corrected price to the settlement price.
@@ -49,29 +47,22 @@ fn on_carried(position: i32, price: u32, corrected: u32) -> i64
     gain(position as i64, price, corrected)
 }
 
-// Whether the trades and the position carried are in range.
-fn in_range(trades: &[Trade], carried: i32) -> bool
-    ensures { Decides result (InRange trades.now carried) }
-{
-    are_limited(trades) && carried.unsigned_abs() <= MOST_CARRIED
-}
-
 // The adjustment of an account in a month: on the trades of the session and on the position
 // carried into it.
 pub fn adjustment(
     trades: &[Trade],
-    account: u8,
-    month: u8,
+    whose: AccountMonth,
     price: u32,
     carried: i32,
     corrected: u32,
 ) -> Option<i64>
-    ensures value { SomeIff result (InRange trades.now carried) (adjustment_of account month price trades.now carried corrected) }
+    ensures value { SomeIff result (InRange trades.now carried) (adjustment_of whose.account whose.month price trades.now carried corrected) }
     ensures most { IfSome result (λ x. unsigned_abs x ≤ 5620000 * 4294967296) }
 {
-    if !in_range(trades, carried) {
+    let session = SessionTrades::new(trades)?;
+    if carried.unsigned_abs() > MOST_CARRIED {
         return None;
     }
-    let traded = on_trades(trades, account, month, price);
+    let traded = session.on_trades(whose, price);
     Some(traded + on_carried(carried, price, corrected))
 }

@@ -4,45 +4,45 @@ ghost use Rattle.std.specs.Option.{SomeIff};
 ghost use Rattle.settlement.specs.Trades.{Limited};
 ghost use Rattle.settlement.specs.DayTrades.{closed, firsts, day_trade};
 
-use crate::trades::{Side, Trade, are_limited, lots, quantity};
+use crate::session::SessionTrades;
+use crate::trades::{AccountMonth, Side, Trade};
 
-// As many contracts as were both bought and sold.
-fn closed_lots(trades: &[Trade], account: u8, month: u8) -> u32
-    requires { Limited trades.now }
-    ensures value { result ≡ closed account month trades.now }
-    ensures most { result ≤ 5120000 }
-{
-    let bought = quantity(Side::Bought, trades, account, month);
-    bought.min(quantity(Side::Sold, trades, account, month))
-}
-
-// The first contracts of a side at their prices, in order of acceptance.
-fn first_units(side: Side, count: u32, trades: &[Trade], account: u8, month: u8) -> u64
-    requires { count ≤ 5120000 }
-    ensures value { result ≡ firsts side account month count trades.now }
-    ensures most { result ≤ 5120000 * 4294967296 }
-{
-    let mut left = count;
-    let mut sum: u64 = 0;
-    for trade in trades {
-        let taken = lots(side, *trade, account, month).min(left);
-        sum += taken as u64 * trade.price as u64;
-        left -= taken;
+impl SessionTrades<'_> {
+    // As many contracts as were both bought and sold.
+    fn closed_lots(&self, whose: AccountMonth) -> u32
+        ensures value { result ≡ closed whose.account whose.month self.now.trades.now }
+        ensures most { result ≤ 5120000 }
+    {
+        let bought = self.quantity(Side::Bought, whose);
+        bought.min(self.quantity(Side::Sold, whose))
     }
-    sum
+
+    // The first contracts of a side at their prices, in order of acceptance.
+    fn first_units(&self, side: Side, count: u32, whose: AccountMonth) -> u64
+        requires { count ≤ 5120000 }
+        ensures value { result ≡ firsts side whose.account whose.month count self.now.trades.now }
+        ensures most { result ≤ 5120000 * 4294967296 }
+    {
+        let mut left = count;
+        let mut sum = 0;
+        for trade in self.trades {
+            let taken = trade.lots(side, whose).min(left);
+            sum += taken as u64 * trade.price as u64;
+            left -= taken;
+        }
+        sum
+    }
 }
 
 // The day trade of the account in a month: the first contracts sold less the first bought, as many
 // as were both.
-pub fn day_trade(trades: &[Trade], account: u8, month: u8) -> Option<i64>
-    ensures value { SomeIff result (Limited trades.now) (day_trade account month trades.now) }
+pub fn day_trade(trades: &[Trade], whose: AccountMonth) -> Option<i64>
+    ensures value { SomeIff result (Limited trades.now) (day_trade whose.account whose.month trades.now) }
     ensures most { IfSome result (λ x. unsigned_abs x ≤ 5120000 * 4294967296) }
 {
-    if !are_limited(trades) {
-        return None;
-    }
-    let count = closed_lots(trades, account, month);
-    let sold = first_units(Side::Sold, count, trades, account, month);
-    let bought = first_units(Side::Bought, count, trades, account, month);
+    let session = SessionTrades::new(trades)?;
+    let count = session.closed_lots(whose);
+    let sold = session.first_units(Side::Sold, count, whose);
+    let bought = session.first_units(Side::Bought, count, whose);
     Some(sold as i64 - bought as i64)
 }

@@ -3,11 +3,13 @@
 
 mod amounts;
 mod day;
+mod session;
 mod trades;
 
 pub use amounts::{MOST_CARRIED, adjustment};
 pub use day::day_trade;
-pub use trades::{MOST_QUANTITY, MOST_TRADES, Side, Trade, contracts_of, position_change};
+pub use session::position_change;
+pub use trades::{AccountMonth, MOST_QUANTITY, MOST_TRADES, Side, Trade, contracts_of};
 
 #[cfg(test)]
 mod tests;

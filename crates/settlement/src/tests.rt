@@ -11,6 +11,10 @@ fn trade(buyer: u8, seller: u8, quantity: u32, price: u32) -> Trade {
     }
 }
 
+fn of(account: u8, month: u8) -> AccountMonth {
+    AccountMonth { account, month }
+}
+
 #[test]
 fn adjusted(rt: HostRuntime) {
     let trades = [trade(0, 1, 10, 9_992_439)];
@@ -33,7 +37,7 @@ fn adjusted(rt: HostRuntime) {
     ];
     for (account, month, price, carried, corrected, amount) in rows {
         assert_eq!(rt;
-            adjustment(&trades, account, month, price, carried, corrected),
+            adjustment(&trades, of(account, month), price, carried, corrected),
             amount
         );
     }
@@ -49,21 +53,21 @@ fn both_bought_and_sold(rt: HostRuntime) {
     ];
     let rows = [(0, 13_000, 3), (1, -12_000, 1), (2, 0, -4), (3, 0, 0)];
     for (account, amount, change) in rows {
-        assert_eq!(rt; day_trade(&trades, account, 0), Some(amount));
-        assert_eq!(rt; position_change(&trades, account, 0), Some(change));
+        assert_eq!(rt; day_trade(&trades, of(account, 0)), Some(amount));
+        assert_eq!(rt; position_change(&trades, of(account, 0)), Some(change));
     }
-    assert_eq!(rt; contracts_of(trades[0], 0, 0), 6);
-    assert_eq!(rt; contracts_of(trades[0], 1, 0), -6);
-    assert_eq!(rt; contracts_of(trades[0], 0, 1), 0);
+    assert_eq!(rt; contracts_of(trades[0], of(0, 0)), 6);
+    assert_eq!(rt; contracts_of(trades[0], of(1, 0)), -6);
+    assert_eq!(rt; contracts_of(trades[0], of(0, 1)), 0);
 }
 
 #[test]
 fn limits(rt: HostRuntime) {
     let many = [trade(0, 1, 20_000, 1); 257];
     let large = [trade(0, 1, 20_001, 1)];
-    assert_eq!(rt; position_change(&many[0..256], 1, 0), Some(5_120_000));
-    assert_eq!(rt; position_change(&many, 1, 0), None);
-    assert_eq!(rt; position_change(&large, 1, 0), None);
-    assert_eq!(rt; day_trade(&many, 1, 0), None);
-    assert_eq!(rt; adjustment(&large, 1, 0, 1, 0, 0), None);
+    assert_eq!(rt; position_change(&many[0..256], of(1, 0)), Some(5_120_000));
+    assert_eq!(rt; position_change(&many, of(1, 0)), None);
+    assert_eq!(rt; position_change(&large, of(1, 0)), None);
+    assert_eq!(rt; day_trade(&many, of(1, 0)), None);
+    assert_eq!(rt; adjustment(&large, of(1, 0), 1, 0, 0), None);
 }

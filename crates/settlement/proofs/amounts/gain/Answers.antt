@@ -2,13 +2,6 @@ use Rattle.std.proofs.Common.{◌^◌, ◌<◌, sym, subst, arith, w64, SFits}
 use Rattle.settlement.proofs.Signs.{gain-size, gain-fits, gain-bits, gain-exact}
 use Rattle.settlement.proofs.amounts.gain.Goals as goal
 
-pub overflow_mul-result : goal.overflow_mul-result
-overflow_mul-result c =
-    let h : c.args.price < 2 ^ 32 = omega arith in
-    let k : c.args.before < 2 ^ 32 = omega arith in
-    subst (SFits w64) (sym (gain-bits c.args.contracts c.args.price c.args.before c.requires h k))
-    (gain-fits c.args.contracts c.args.price c.args.before c.requires h k)
-
 pub returns : goal.returns
 returns c =
     let h : c.args.price < 2 ^ 32 = omega arith in
