@@ -1,7 +1,7 @@
 -- Laws of the days of a range.
-use Rattle.std.proofs.Common.{◌≡◌, ℕ, zero, suc, ◌+◌, ◌-◌, ◌<◌, ◌≤◌, min, Bool, true, false, cond, List, [], ◌∷◌, ◌++◌, length, IfSome, Some, None, filter, Option, sym, refl, ap, ◌∙◌, add-zero, arith}
-use Rattle.std.proofs.lemmas.List.{append-nil, length-append}
-use Rattle.std.specs.List.{range_with_len}
+use Rattle.std.proofs.Common.{◌≡◌, ℕ, zero, suc, ◌+◌, ◌-◌, ◌<◌, ◌≤◌, min, Bool, true, false, cond, List, [], ◌∷◌, ◌++◌, length, IfSome, Some, None, filter, Option, option_map, sym, refl, ap, ◌∙◌, add-zero, arith}
+use Rattle.std.proofs.lemmas.List.{append-nil}
+use Rattle.std.specs.List.{range_with_len, find}
 use Rattle.calendar.specs.declared.kind.DayKind.{DayKind}
 use Rattle.calendar.specs.declared.kind.DayKind.TheVariants.{Closed}
 use Rattle.calendar.specs.Kinds.{is_reserve, is_session}
@@ -86,26 +86,7 @@ days-end t k end from to h = by (to - end) (end - from) refl refl
         ∙ append-nil (days_by t k from end)
         ∙ ap (days_by t k from) (sym g)
 
--- the number of days with one day more
-pub count-more : (t : DayKind → Bool) (k : ℕ → DayKind) (from day : ℕ) → from ≤ day
-    → length (days_by t k from (day + 1)) ≡ length (days_by t k from day) + cond (t (k day)) 1 0
-count-more t k from day h =
-    ap length (days-more t k from day h) ∙ length-append (days_by t k from day) _ ∙ ap (λ n. length (days_by t k from day) + n) (one (t (k day)))
-  where
-    one : (b : Bool) → length (cond b (day ∷ []) []) ≡ cond b 1 0
-    one true = refl
-    one false = refl
-
--- the search for the first session, one day on
-pub session-here : (k : ℕ → DayKind) (from to : ℕ) → from < to → is_session (k from) ≡ true → first_session k from to ≡ Some from
-session-here k from to h e =
-    ap first_in (days-head is_session k from to h ∙ ap (λ b. cond b (from ∷ days_by is_session k (from + 1) to) (days_by is_session k (from + 1) to)) e)
-
-pub session-later : (k : ℕ → DayKind) (from to : ℕ) → from < to → is_session (k from) ≡ false → first_session k from to ≡ first_session k (from + 1) to
-session-later k from to h e =
-    ap first_in (days-head is_session k from to h ∙ ap (λ b. cond b (from ∷ days_by is_session k (from + 1) to) (days_by is_session k (from + 1) to)) e)
-
-pub session-none : (k : ℕ → DayKind) (from to : ℕ) → to ≤ from → first_session k from to ≡ None
+session-none : (k : ℕ → DayKind) (from to : ℕ) → to ≤ from → first_session k from to ≡ None
 session-none k from to h = ap first_in (days-none is_session k from to h)
 
 -- past the end of the calendar no day passes
@@ -113,9 +94,9 @@ pub past-last : (k : ℕ → DayKind) → ((d : ℕ) → 36524 < d → k d ≡ C
 past-last k ends t e d h = ap t (ends d (omega arith)) ∙ e
 
 -- a count that stops at the end of the calendar
-pub count-ends : (k : ℕ → DayKind) → ((d : ℕ) → 36524 < d → k d ≡ Closed) → (from end to count : ℕ) → count ≡ length (reserve_days k from end)
+pub count_ends : (k : ℕ → DayKind) → ((d : ℕ) → 36524 < d → k d ≡ Closed) → (from end to count : ℕ) → count ≡ length (reserve_days k from end)
     → end ≡ min to 36525 → count ≡ length (reserve_days k from to)
-count-ends k ends from end to count is e =
+count_ends k ends from end to count is e =
     is ∙ sym (ap length (days-end is_reserve k 36525 from to (past-last k ends is_reserve refl) ∙ ap (days_by is_reserve k from) (sym e)))
 
 -- a search that stops at the end of the calendar
@@ -170,3 +151,23 @@ first-bound k ends from to (Some s) a = by (s - 36524) refl
       where
         clash : true ≡ false → ⊥
         clash q = let z : ◌≡◌ {A = ℕ} 0 1 = cc in omega arith
+
+-- the first day that a search finds is the first of those that pass
+found-first : (t : ℕ → Bool) (ds : List ℕ) → find t ds ≡ first_in (filter t ds)
+found-first t [] = refl
+found-first t (d ∷ ds) = by (t d) (found-first t ds)
+  where
+    by : (b : Bool) → find t ds ≡ first_in (filter t ds) → cond b (Some d) (find t ds) ≡ first_in (cond b (d ∷ filter t ds) (filter t ds))
+    by true e = refl
+    by false e = e
+
+same : (r : Option ℕ) → option_map (λ d. d) r ≡ r
+same None = refl
+same (Some d) = refl
+
+-- what a search of a range to the end of the calendar finds
+pub session-found : (k : ℕ → DayKind) → ((d : ℕ) → 36524 < d → k d ≡ Closed) → (from to end : ℕ) (r : Option ℕ) → end ≡ min to 36525
+    → option_map (λ d. d) r ≡ find (λ d. is_session (k d)) (range_with_len from (end - from)) → r ≡ first_session k from to
+unfolding days_by
+session-found k ends from to end r e found =
+    sym (same r) ∙ found ∙ found-first (λ d. is_session (k d)) (range_with_len from (end - from)) ∙ sym (session-ends k ends from to end e)

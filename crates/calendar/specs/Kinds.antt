@@ -35,7 +35,7 @@ of_week d = cond (nat_lt (d % 7) 2) Closed Session
 -- the first exception of a day decides; without one the week does
 abbrev pub excepted : List Exception → ℕ → DayKind
 excepted [] d = of_week d
-excepted (e ∷ es) d = cond (e.day == d) (of_mark e.kind) (excepted es d)
+excepted (e ∷ es) d = cond (e.day == d) e.kind (excepted es d)
 
 -- what a rule calendar of these exceptions means
 abbrev pub ruled : List Exception → ℕ → DayKind

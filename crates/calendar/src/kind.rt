@@ -16,19 +16,13 @@ impl DayKind {
     pub fn is_reserve(self) -> bool
         ensures { result ≡ is_reserve self }
     {
-        match self {
-            DayKind::Closed => false,
-            DayKind::Reserve | DayKind::Session => true,
-        }
+        matches!(self, DayKind::Reserve | DayKind::Session)
     }
 
     pub fn is_session(self) -> bool
         ensures { result ≡ is_session self }
     {
-        match self {
-            DayKind::Closed | DayKind::Reserve => false,
-            DayKind::Session => true,
-        }
+        matches!(self, DayKind::Session)
     }
 }
 
@@ -44,12 +38,14 @@ pub trait Calendar {
 }
 
 // What a mark says: 1 a reserve day, 2 a session, any other closed.
-pub fn kind_of_mark(mark: u8) -> DayKind
-    ensures { result ≡ of_mark mark }
-{
-    match mark {
-        1 => DayKind::Reserve,
-        2 => DayKind::Session,
-        _ => DayKind::Closed,
+impl From<u8> for DayKind {
+    ghost from_gives = { λ mark kind. kind ≡ of_mark mark };
+
+    fn from(mark: u8) -> DayKind {
+        match mark {
+            1 => DayKind::Reserve,
+            2 => DayKind::Session,
+            _ => DayKind::Closed,
+        }
     }
 }

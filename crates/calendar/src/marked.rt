@@ -3,7 +3,7 @@ ghost use Rattle.std.specs.Prelude.{◌≡◌};
 ghost use Rattle.calendar.specs.Marked.{marked_kinds};
 ghost use Rattle.std.proofs.Common.{rules};
 
-use crate::kind::{Calendar, DayKind, kind_of_mark};
+use crate::kind::{Calendar, DayKind};
 use dates::LAST_DAY;
 
 #[derive(Drop)]
@@ -28,9 +28,8 @@ impl Calendar for MarkedCalendar {
         if day > LAST_DAY {
             return DayKind::Closed;
         }
-        match self.marks.get(day as usize) {
-            Some(mark) => kind_of_mark(*mark),
-            None => DayKind::Closed,
-        }
+        self.marks
+            .get(day as usize)
+            .map_or(DayKind::Closed, |mark| DayKind::from(*mark))
     }
 }

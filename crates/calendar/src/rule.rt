@@ -1,18 +1,32 @@
 // The rule calendar: Monday to Friday are sessions but for a list of exceptions.
-ghost use Rattle.std.specs.Prelude.{◌≡◌, ℕ, ◌+◌, ◌<◌, length, drop, IfOk};
-ghost use Rattle.calendar.specs.Kinds.{of_week, excepted, ruled};
+ghost use Rattle.std.specs.Prelude.{◌≡◌, ℕ, List, ◌∷◌, IfOk};
+ghost use Rattle.calendar.specs.declared.rule.Exception.{Exception};
+ghost use Rattle.calendar.specs.Kinds.{of_mark, of_week, excepted, ruled};
 ghost use Rattle.calendar.specs.Ruled.{rule_kinds, Tells};
 ghost use Rattle.std.proofs.Common.{rules};
 
-use crate::kind::{Calendar, DayKind, kind_of_mark};
+use crate::kind::{Calendar, DayKind};
 use dates::LAST_DAY;
 use std::alloc::{AllocError, Global};
 
-// A day and the mark of its kind; a mark above 2 counts as closed.
+// A day and its kind.
 #[derive(Clone, Copy, PartialEq, Eq, Debug)]
 pub struct Exception {
     pub day: u32,
-    pub kind: u8,
+    pub kind: DayKind,
+}
+
+impl Exception {
+    // A day and the mark of its kind.
+    pub fn of_mark(day: u32, mark: u8) -> Exception
+        ensures day { result.day ≡ day }
+        ensures kind { result.kind ≡ of_mark mark }
+    {
+        Exception {
+            day,
+            kind: DayKind::from(mark),
+        }
+    }
 }
 
 // The kind of each day from day 0 to the last, worked out once from the exceptions.
@@ -36,22 +50,15 @@ fn kind_of_week(day: u32) -> DayKind
 fn weeks(heap: Global) -> Result<Vec<DayKind>, AllocError>
     ensures { IfOk result (λ v. Tells of_week v.items 36525) }
 {
-    let mut days = Vec::with_capacity(heap, LAST_DAY as usize + 1)?;
-    for day in 0..LAST_DAY + 1 {
-        days.push(kind_of_week(day))?;
-    }
-    Ok(days)
+    (0..LAST_DAY + 1).map(kind_of_week).collect(heap)
 }
 
 // Puts in the entry before those that are in already.
-fn enter(days: &mut Vec<DayKind>, exceptions: &[Exception], at: usize)
-    requires within { at < length exceptions.now }
-    requires told { Tells (excepted (drop (at + 1) exceptions.now)) days.old.items 36525 }
-    ensures { Tells (excepted (drop at exceptions.now)) days.new.items 36525 }
+fn enter(days: &mut Vec<DayKind>, exception: Exception)
+    ensures { (rest : List Exception) → Tells (excepted rest) days.old.items 36525 → Tells (excepted (exception ∷ rest)) days.new.items 36525 }
 {
-    let exception = exceptions[at];
-    if exception.day <= LAST_DAY {
-        days[exception.day as usize] = kind_of_mark(exception.kind);
+    if let Some(kind) = days.get_mut(exception.day as usize) {
+        *kind = exception.kind;
     }
 }
 
@@ -61,10 +68,8 @@ impl RuleCalendar {
         ensures { IfOk result (λ c. (d : ℕ) → rule_kinds c d ≡ ruled exceptions.now d) }
     {
         let mut days = weeks(heap)?;
-        let mut left = exceptions.len();
-        while left > 0 {
-            left -= 1;
-            enter(&mut days, exceptions, left);
+        for exception in exceptions.iter().rev() {
+            enter(&mut days, *exception);
         }
         Ok(RuleCalendar { days })
     }
@@ -79,9 +84,9 @@ impl Calendar for RuleCalendar {
         if day > LAST_DAY {
             return DayKind::Closed;
         }
-        match self.days.get(day as usize) {
-            Some(kind) => *kind,
-            None => DayKind::Closed,
-        }
+        self.days
+            .get(day as usize)
+            .copied()
+            .unwrap_or(DayKind::Closed)
     }
 }

@@ -28,26 +28,11 @@ fn marks(rt: HostRuntime) -> Result<(), Fail> {
 #[test]
 fn rules(rt: HostRuntime) -> Result<(), Fail> {
     let exceptions = [
-        Exception {
-            day: 9_862,
-            kind: 0,
-        },
-        Exception {
-            day: 9_862,
-            kind: 2,
-        },
-        Exception {
-            day: 9_861,
-            kind: 1,
-        },
-        Exception {
-            day: 36_525,
-            kind: 2,
-        },
-        Exception {
-            day: 9_864,
-            kind: 9,
-        },
+        Exception::of_mark(9_862, 0),
+        Exception::of_mark(9_862, 2),
+        Exception::of_mark(9_861, 1),
+        Exception::of_mark(36_525, 2),
+        Exception::of_mark(9_864, 9),
     ];
     let calendar = RuleCalendar::new(rt.alloc(), &exceptions)?;
     assert_eq!(rt; calendar.kind(9_862), DayKind::Closed);

@@ -1,8 +1,11 @@
 -- Each date has one day number, and each day number one date. Assumes nothing.
 use Rattle.std.proofs.Common.{◌≡◌, ℕ, ◌+◌, ◌-◌, ◌/◌, ◌%◌, ◌≤◌, sym, ap, ◌∙◌, arith}
+use Rattle.std.proofs.lemmas.Bool.{le-leb}
+use Rattle.dates.specs.declared.date.Date.{Date}
+use Rattle.dates.specs.Named.{day_number, text_of, day_text, OnlyDay}
 use Rattle.dates.specs.Months.{month_length, first_day, month_of, Holds}
 use Rattle.dates.specs.Dates.{month_number, Real, day_of}
-use Rattle.dates.proofs.MonthLaws.{first-day-suc, first-day-grows, days-end, month-is}
+use Rattle.dates.proofs.MonthLaws.{first-day-suc, first-day-grows, days-end, month-holds, month-is}
 
 -- a date lies in its month
 pub date-holds : (y m k : ℕ) → Real y m k → (month_number y m ≤ 1199) × Holds (month_number y m) (day_of y m k)
@@ -33,3 +36,14 @@ dated m k h o =
     let l = ap month_length e in
     let f = ap first_day e in
     (((omega arith, omega arith), (omega arith, omega arith), (omega arith, omega arith)), omega arith)
+
+-- the text of the date of a day is that of the day
+pub day_text_is : (d : Date) (n : ℕ) → day_number d ≡ n → OnlyDay d n → text_of d ≡ day_text n
+day_text_is d n e only =
+    let m = month_of n in
+    let h : n ≤ 36524 = omega (arith, date-bound d.year d.month d.day d.real) in
+    let o = month-holds n h in
+    let s = first-day-suc m in
+    let r = dated m (n - first_day m + 1) o.0 (omega arith, omega arith) in
+    let i = only (2000 + m / 12) (m % 12 + 1) (n - first_day m + 1) r.0 (omega arith) in
+    rw (le-leb n 36524 h, i.0, i.1, i.2)

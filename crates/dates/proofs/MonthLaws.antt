@@ -12,9 +12,9 @@ pub first-day-suc : (m : ℕ) → first_day (m + 1) ≡ first_day m + month_leng
 unfolding first_day
 first-day-suc m = rw add-one
 
-pub length-bound : (m : ℕ) → (28 ≤ month_length m) × (month_length m ≤ 31)
+pub length_bound : (m : ℕ) → (28 ≤ month_length m) × (month_length m ≤ 31)
 unfolding month_length
-length-bound m = grind (arith, nat_tests)
+length_bound m = grind (arith, nat_tests)
 
 -- what holds of each of the twelve months
 by-month : (P : ℕ → Type 0) → P 0 → P 1 → P 2 → P 3 → P 4 → P 5 → P 6 → P 7 → P 8 → P 9 → P 10 → P 11

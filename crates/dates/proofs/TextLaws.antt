@@ -1,13 +1,16 @@
 -- Dates as ten bytes of text. Assumes nothing.
-use Rattle.std.proofs.Common.{◌≡◌, ℕ, zero, suc, ◌+◌, ◌*◌, ◌/◌, ◌%◌, List, [], ◌∷◌, length, get_or, drop, ap, ◌∙◌, arith, drop-cons}
+use Rattle.std.proofs.Common.{◌≡◌, ℕ, zero, suc, ◌+◌, ◌-◌, ◌*◌, ◌/◌, ◌%◌, ◌^◌, ◌<◌, ◌≤◌, inl, inr, ◌++◌, List, [], ◌∷◌, length, get_or, drop, ap, ◌∙◌, arith, drop-cons}
 use lib.Seq.{drop-length}
-use Rattle.dates.specs.Dates.{month_number, date_text, Digits, Formed, Undated}
-use Rattle.dates.proofs.MonthLaws.{length-bound}
+use Rattle.std.specs.Fmt.{styled_decimal, format_spec, padded_integral, char_count}
+use Rattle.std.proofs.lemmas.Bool.{cases_lt}
+use Rattle.std.proofs.lemmas.Fmt.{decimal_digit, decimal_step}
+use Rattle.dates.specs.Dates.{month_number, two_digits, date_text, Digits, Formed, Undated}
+use Rattle.dates.proofs.MonthLaws.{length_bound}
 
 -- the text of a date has the form of one
 pub undated : (bs : List ℕ) → (Formed bs → ⊥) → Undated bs
 undated bs no-form y m d r e =
-    let l = length-bound (month_number y m) in
+    let l = length_bound (month_number y m) in
     no-form (y, m, d, (omega arith, omega arith, omega arith, e))
 
 -- the n bytes of bs from place i on
@@ -31,3 +34,22 @@ text-is bs p q m d l a b x e y f =
     let o : (100 * p + q) % 100 ≡ q = omega arith in
     let t : bs ≡ bytes bs 0 10 = all-bytes bs 0 10 l in
     rw (c, o) (cc)
+
+-- what `{:02}` writes
+pub shown_in_two : (n : ℕ) → n < 100 → styled_decimal (format_spec 32 0 4 2 (2 ^ 64 - 1)) n ≡ two_digits n
+unfolding padded_integral char_count
+shown_in_two n small = elim (cases_lt n 10) [
+  | inl one ↦ let high : n / 10 ≡ 0 = omega arith in let low : n % 10 ≡ n = omega arith in rw (decimal_digit n one, high, low)
+  | inr two ↦ let t : n / 10 < 10 = omega arith in rw (decimal_step n two (omega arith), decimal_digit (n / 10) t)
+]
+
+-- what `{:04}` writes of a year
+pub shown_in_four : (n : ℕ) → 1000 ≤ n → n < 10000 → styled_decimal (format_spec 32 0 4 4 (2 ^ 64 - 1)) n ≡ two_digits (n / 100) ++ two_digits (n % 100)
+unfolding padded_integral char_count
+shown_in_four n some small =
+    let a : n / 10 / 10 / 10 ≡ n / 100 / 10 = omega arith in
+    let b : n / 10 / 10 % 10 ≡ n / 100 % 10 = omega arith in
+    let d : n / 10 % 10 ≡ n % 100 / 10 = omega arith in
+    let e : n % 10 ≡ n % 100 % 10 = omega arith in
+    let s : n / 10 / 10 / 10 < 10 = omega arith in
+    rw (decimal_step n (omega arith) (omega arith), decimal_step (n / 10) (omega arith) (omega arith), decimal_step (n / 10 / 10) (omega arith) (omega arith), decimal_digit (n / 10 / 10 / 10) s, a, b, d, e)

@@ -1,8 +1,10 @@
 -- The day number and the text of a `Date`, and what is read from a text. Assumes nothing.
-use Rattle.std.specs.Prelude.{◌≡◌, ℕ, List, Ok, Err, codes, Result}
+use Rattle.std.specs.Prelude.{◌≡◌, ℕ, ◌+◌, ◌-◌, ◌%◌, cond, nat_le, List, ◌++◌, Ok, Err, codes, Result}
+use Rattle.std.specs.Fmt.{decimal}
 use Rattle.dates.specs.declared.date.Date.{Date}
 use Rattle.dates.specs.declared.date.text.DateError.{DateError}
 use Rattle.dates.specs.declared.date.text.DateError.TheVariants.{Form, NoSuchDate}
+use Rattle.dates.specs.Months.{year_of, first_day, month_of}
 use Rattle.dates.specs.Dates.{Real, day_of, date_text, Formed, Undated}
 
 -- the day number of a date
@@ -12,6 +14,12 @@ day_number d = day_of d.year d.month d.day
 -- the text of a date
 abbrev pub text_of : Date → List ℕ
 text_of d = date_text d.year d.month d.day
+
+-- the text of a day by its number: that of its date, or `day 36525` past the last date
+abbrev pub day_text : ℕ → List ℕ
+day_text n =
+    let m = month_of n in
+    cond (nat_le n 36524) (date_text (year_of m) (m % 12 + 1) (n - first_day m + 1)) (codes "day " ++ decimal n)
 
 -- d is the date y-m-k
 abbrev pub Is : Date → ℕ → ℕ → ℕ → Type 0

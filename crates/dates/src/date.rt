@@ -1,10 +1,11 @@
 ghost use Rattle.std.specs.Prelude.{◌≡◌};
 ghost use Rattle.dates.specs.Dates.{Real};
 
+mod day;
 mod days;
-mod digits;
 mod text;
 
+pub use day::Day;
 pub use text::DateError;
 
 // A date from 1 January 2000 to 31 December 2099.

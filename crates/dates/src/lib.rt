@@ -7,7 +7,7 @@ ghost use Rattle.dates.specs.Months.{days_in, month_length, first_day, month_of,
 mod date;
 mod week;
 
-pub use date::{Date, DateError};
+pub use date::{Date, DateError, Day};
 pub use week::Weekday;
 
 // Day 0 is Saturday, 1 January 2000, and month 0 is January 2000.
@@ -33,6 +33,7 @@ fn days_in(of_year: u32, leap: bool) -> u32
 }
 
 // The days of a month.
+#[tactic(auto, unfolding(crate::specs::Months::month_length))]
 pub fn month_length(month: u32) -> Option<u32>
     ensures value { SomeIff result (month ≤ 1199) (month_length month) }
     ensures bound { IfSome result (λ n. (28 ≤ n) × (n ≤ 31)) }
@@ -60,11 +61,7 @@ pub fn first_day(month: u32) -> Option<u32>
     ensures value { SomeIff result (month ≤ 1199) (first_day month) }
     ensures bound { IfSome result (λ d. d ≤ 36494) }
 {
-    if month <= LAST_MONTH {
-        Some(start(month))
-    } else {
-        None
-    }
+    (month <= LAST_MONTH).then(|| start(month))
 }
 
 // The month of a day. 48 months have 1461 days, and no month begins more than 63 / 48 days late by that measure.
@@ -149,6 +146,9 @@ mod tests {
         let date = Date::parse("2006-02-09")?;
         let text = format!(in rt.alloc(); "{date} {}", Weekday::of_day(date.day_number()))?;
         assert!(rt; text.as_str() == "2006-02-09 Thursday");
+        let (new_year, past) = (Day { number: 9_862 }, Day { number: 36_525 });
+        let text = format!(in rt.alloc(); "{new_year}, {past}")?;
+        assert!(rt; text.as_str() == "2027-01-01, day 36525");
         Ok(())
     }
 }

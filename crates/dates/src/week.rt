@@ -35,7 +35,7 @@ impl fmt::Display for Weekday {
     ghost output = { λ w. Some (weekday_name w) };
 
     fn fmt<W: fmt::Write>(&self, f: &mut fmt::Formatter<W>) -> fmt::Result {
-        let name = match self {
+        f.write_str(match self {
             Weekday::Saturday => "Saturday",
             Weekday::Sunday => "Sunday",
             Weekday::Monday => "Monday",
@@ -43,7 +43,6 @@ impl fmt::Display for Weekday {
             Weekday::Wednesday => "Wednesday",
             Weekday::Thursday => "Thursday",
             Weekday::Friday => "Friday",
-        };
-        write!(f, "{name}")
+        })
     }
 }

@@ -38,20 +38,19 @@ impl Date {
         if year < 2000 || year > 2099 || month < 1 || month > 12 {
             return None;
         }
-        match month_length(month_number(year, month)) {
-            Some(length) if day >= 1 && day <= length => Some(Date { year, month, day }),
-            _ => None,
+        let length = month_length(month_number(year, month))?;
+        if day < 1 || day > length {
+            return None;
         }
+        Some(Date { year, month, day })
     }
 
     // The date of a day number, if there is one.
     pub fn of_day(day: u32) -> Option<Date>
         ensures { MatchOption result (36524 < day) (λ d. (day_number d ≡ day) × OnlyDay d day) }
     {
-        match month_of(day) {
-            Some(month) => Some(date_in(month, day - start(month) + 1)),
-            None => None,
-        }
+        let month = month_of(day)?;
+        Some(date_in(month, day - start(month) + 1))
     }
 
     // The first day of its month.

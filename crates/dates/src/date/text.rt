@@ -3,7 +3,7 @@ ghost use Rattle.dates.specs.Dates.{Digits, Numbers, Formed};
 ghost use Rattle.dates.specs.Named.{text_of, Reads, message};
 
 use crate::date::Date;
-use crate::date::digits::TwoDigits;
+use std::error::Error;
 use std::fmt;
 use std::str::FromStr;
 
@@ -14,34 +14,25 @@ pub enum DateError {
     NoSuchDate,
 }
 
-impl DateError {
-    fn text(&self) -> &'static str
-        ensures { result.now ≡ message self.now }
-    {
-        match self {
-            DateError::Form => "a date is written as 2026-12-30",
-            DateError::NoSuchDate => "there is no such date from 2000-01-01 to 2099-12-31",
-        }
-    }
-}
-
 impl fmt::Display for DateError {
     ghost output = { λ e. Some (message e) };
 
     fn fmt<W: fmt::Write>(&self, f: &mut fmt::Formatter<W>) -> fmt::Result {
-        write!(f, "{}", self.text())
+        f.write_str(match self {
+            DateError::Form => "a date is written as 2026-12-30",
+            DateError::NoSuchDate => "there is no such date from 2000-01-01 to 2099-12-31",
+        })
     }
 }
+
+impl Error for DateError {}
 
 impl fmt::Display for Date {
     ghost output = { λ d. Some (text_of d) };
 
+    #[tactic(auto, using(crate::proofs::MonthLaws::length_bound, crate::proofs::TextLaws::shown_in_two, crate::proofs::TextLaws::shown_in_four))]
     fn fmt<W: fmt::Write>(&self, f: &mut fmt::Formatter<W>) -> fmt::Result {
-        let century = TwoDigits::new(self.year / 100);
-        let year = TwoDigits::new(self.year % 100);
-        let month = TwoDigits::new(self.month);
-        let day = TwoDigits::new(self.day);
-        write!(f, "{century}{year}-{month}-{day}")
+        write!(f, "{:04}-{:02}-{:02}", self.year, self.month, self.day)
     }
 }
 
@@ -49,10 +40,9 @@ impl fmt::Display for Date {
 fn two_digits(tens: u8, units: u8) -> Option<u32>
     ensures { MatchOption result ((n : ℕ) → Digits tens units n → ⊥) (λ n. Digits tens units n) }
 {
-    match (tens, units) {
-        (b'0'..=b'9', b'0'..=b'9') => Some(10 * (tens - b'0') as u32 + (units - b'0') as u32),
-        _ => None,
-    }
+    let tens = (tens as char).to_digit(10)?;
+    let units = (units as char).to_digit(10)?;
+    Some(10 * tens + units)
 }
 
 // The year, the month and the day that stand in a text as 2026-12-30.
@@ -74,10 +64,8 @@ impl Date {
     pub fn parse(text: &str) -> Result<Date, DateError>
         ensures { Reads text.now result }
     {
-        match numbers(text.as_bytes()) {
-            Some((year, month, day)) => Date::new(year, month, day).ok_or(DateError::NoSuchDate),
-            None => Err(DateError::Form),
-        }
+        let (year, month, day) = numbers(text.as_bytes()).ok_or(DateError::Form)?;
+        Date::new(year, month, day).ok_or(DateError::NoSuchDate)
     }
 }
 

@@ -1,28 +1,19 @@
-use Rattle.std.proofs.Common.{◌≡◌, Some, None, sym, ap, ◌∙◌, rules}
+use Rattle.std.proofs.Common.{◌≡◌, rules, refl}
+use borrow.Author.Tests.{tests}
+use Rattle.std.proofs.lemmas.Iterator.{YieldsList-from_range}
+use Rattle.std.proofs.lemmas.Iterator.Search.{find_from_yields_List}
 use Rattle.calendar.specs.Kinds.{is_session}
 use Rattle.calendar.specs.Spans.{first_session}
-use Rattle.calendar.proofs.Spans.{session-here, session-later, session-none, session-ends, is-first, first-bound}
+use Rattle.calendar.proofs.Spans.{session-found, is-first, first-bound}
 use Rattle.calendar.proofs.span.first_session.Goals as goal
-
-pub returns-then-is_session : goal.returns-then-is_session
-returns-then-is_session g c =
-    let k = g.C.Calendar.kinds c.args.calendar.now in
-    let ends = g.met.C.Calendar.ends c.args.calendar.now in
-    let day = c.loop-day.day in
-    let e : Some day ≡ first_session k c.args.from c.args.to =
-    sym (session-ends k ends _ _ _ c.min-end.ensures ∙ c.loop-day.invariant
-    ∙ session-here k _ _ c.loop-day-test.true (ap is_session (sym c.kind.ensures) ∙ sym c.if-is_session.ensures)) in
-    let f = is-first k c.args.from c.args.to (Some day) e in
-    record { value = e; first = f; bound = first-bound k ends c.args.from c.args.to (Some day) f }
-
-pub loop-day-preserved : goal.loop-day-preserved
-loop-day-preserved g c = search (rules, session-later)
 
 pub returns : goal.returns
 returns g c =
     let k = g.C.Calendar.kinds c.args.calendar.now in
     let ends = g.met.C.Calendar.ends c.args.calendar.now in
-    let e : None ≡ first_session k c.args.from c.args.to =
-    sym (session-ends k ends _ _ _ c.min-end.ensures ∙ c.loop-day.invariant ∙ session-none k _ _ c.loop-day-test.false) in
-    let f = is-first k c.args.from c.args.to None e in
-    record { value = e; first = f; bound = tt }
+    let e : c.find.result ≡ first_session k c.args.from c.args.to =
+    session-found k ends c.args.from c.args.to c.min-end.result c.find.result c.min-end.ensures
+    (find_from_yields_List (λ d. is_session (k d)) _ _ c.find.result c.find.ensures.ran
+    (YieldsList-from_range c.args.from c.min-end.result _ refl refl) (λ x b q e. search (rules, tests))) in
+    let f = is-first k c.args.from c.args.to c.find.result e in
+    record { value = e; first = f; bound = first-bound k ends c.args.from c.args.to c.find.result f }

@@ -1,11 +1,11 @@
-use Rattle.std.proofs.Common.{◌≤◌, length, drop, vec_items}
+use Rattle.std.proofs.Common.{◌≡◌, List, ◌++◌, vec_items}
+use Rattle.std.specs.Slice.Iter.{iter_rest}
+use Rattle.std.specs.Iterator.Adapters.{rev_source}
+use Rattle.calendar.specs.declared.rule.Exception.{Exception}
 use Rattle.calendar.specs.Kinds.{excepted}
 use Rattle.calendar.specs.Ruled.{Tells}
 use Rattle.calendar.proofs.rule.RuleCalendar.new.Given as goal
 
-abbrev pub invariant-loop-left : goal.invariant-loop-left
-invariant-loop-left l =
-    (l.left ≤ length l.exceptions) × Tells (excepted (drop l.left l.exceptions)) (vec_items l.days) 36525
-
-abbrev pub decreases-loop-left : goal.decreases-loop-left
-decreases-loop-left l = l.left
+abbrev pub invariant-loop-exception : goal.invariant-loop-exception
+invariant-loop-exception l =
+    (rest : List Exception) × (l.exceptions ≡ iter_rest (rev_source l.exception-iterator) ++ rest) × Tells (excepted rest) (vec_items l.days) 36525

@@ -2,9 +2,6 @@ use Rattle.std.proofs.Common.{refl}
 use Rattle.dates.proofs.DateLaws.{one-date, dated}
 use Rattle.dates.proofs.date.days.date_in.Goals as goal
 
-pub invariant_of-result : goal.invariant_of-result
-invariant_of-result c = record { real = (dated c.args.month c.args.day c.requires.month c.requires.day).0 }
-
 pub returns : goal.returns
 returns c =
     let r = dated c.args.month c.args.day c.requires.month c.requires.day in
