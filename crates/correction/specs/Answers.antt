@@ -1,7 +1,8 @@
 -- What a correction answers.
-use Rattle.std.specs.Prelude.{◌≡◌, ℕ, ◌+◌, ◌<◌, ◌≤◌, length, Some, None, Option, Result, MatchResult}
+use Rattle.std.specs.Prelude.{◌≡◌, ℕ, ◌+◌, ◌<◌, ◌≤◌, List, ◌++◌, length, codes, Some, None, Option, Result, MatchResult}
 use Rattle.calendar.specs.declared.kind.DayKind.{DayKind}
 use Rattle.calendar.specs.Spans.{reserve_days}
+use Rattle.dates.specs.Named.{day_text}
 use Rattle.refusal.specs.declared.Refusal.{Refusal}
 use Rattle.refusal.specs.declared.Refusal.TheVariants as refusals
 use Rattle.correction.specs.declared.Uncorrected.{Uncorrected}
@@ -22,6 +23,11 @@ Refused kinds rates from to (MissingRate day) = Short kinds from to × (first_un
 abbrev pub refusal_of : Uncorrected → Option Refusal
 refusal_of TooLong = None
 refusal_of (MissingRate day) = Some (refusals.MissingRate day)
+
+-- a cause in words
+abbrev pub message : Uncorrected → List ℕ
+message TooLong = codes "over 252 reserve days"
+message (MissingRate day) = codes "no rate for " ++ day_text day
 
 -- the corrected price where every reserve day of a short gap has a rate, else the first cause
 abbrev pub Answer : (ℕ → DayKind) → (ℕ → Option ℕ) → ℕ → ℕ → ℕ → Result ℕ Uncorrected → Type 0

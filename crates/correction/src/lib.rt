@@ -2,22 +2,32 @@
 // rates.
 #![tactic(auto)]
 
-ghost use Rattle.std.specs.Prelude.{◌≡◌, ℕ, ◌+◌, ◌≤◌, true, is_some, None, MatchResult};
+ghost use Rattle.std.specs.Prelude.{◌≡◌, ℕ, ◌+◌, ◌≤◌, true, is_some, Some, None, MatchResult};
 ghost use Rattle.interest.specs.Correction.{corrected_day};
 ghost use Rattle.correction.specs.Gaps.{factor_on};
-ghost use Rattle.correction.specs.Answers.{Short, Answer, DayOn, refusal_of};
+ghost use Rattle.correction.specs.Answers.{Short, Answer, DayOn, refusal_of, message};
 ghost use Rattle.correction.specs.Carrying.{Carried};
 ghost use Rattle.correction.specs.declared.Uncorrected.TheVariants.{MissingRate};
 
 use calendar::kind::Calendar;
 use calendar::span::count_reserve_days;
-use dates::LAST_DAY;
+use dates::{Day, LAST_DAY};
 use interest::{correct_day, day_factor};
 use rates::source::RateSource;
 use refusal::Refusal;
+use std::fmt;
 
 // The most reserve days of a gap: a year of them.
 pub const MOST_DAYS: u32 = 252;
+
+// The day of a session, a later one, and the price of the session. Its days are those from the
+// first, included, to the other, excluded.
+#[derive(Clone, Copy, PartialEq, Eq, Debug)]
+pub struct Gap {
+    pub from: u32,
+    pub to: u32,
+    pub price: u32,
+}
 
 // Why a price is not corrected.
 #[derive(Clone, Copy, PartialEq, Eq, Debug)]
@@ -38,6 +48,19 @@ impl Uncorrected {
     }
 }
 
+impl fmt::Display for Uncorrected {
+    ghost output = { λ e. Some (message e) };
+
+    fn fmt<W: fmt::Write>(&self, f: &mut fmt::Formatter<W>) -> fmt::Result {
+        match self {
+            Uncorrected::TooLong => write!(f, "over 252 reserve days"),
+            Uncorrected::MissingRate(day) => write!(f, "no rate for {}", Day { number: *day }),
+        }
+    }
+}
+
+impl std::error::Error for Uncorrected {}
+
 // The price after a reserve day, by the day's own rate.
 fn by_rate<S: RateSource>(source: &S, day: u32, price: u64) -> Result<u64, Uncorrected>
     requires { price ≤ 90000000000 }
@@ -45,16 +68,9 @@ fn by_rate<S: RateSource>(source: &S, day: u32, price: u64) -> Result<u64, Uncor
         (λ p. (is_some (S.rates source.now day) ≡ true) × (p ≡ corrected_day price (factor_on (S.rates source.now) day)) × (p ≤ price + 280000000))
         (λ e. (e ≡ MissingRate day) × (S.rates source.now day ≡ None)) }
 {
-    let Some(rate) = source.rate(day) else {
-        return Err(Uncorrected::MissingRate(day));
-    };
-    let Some(factor) = day_factor(rate) else {
-        unreachable()
-    };
-    let Some(next) = correct_day(price, factor) else {
-        unreachable()
-    };
-    Ok(next)
+    let rate = source.rate(day).ok_or(Uncorrected::MissingRate(day))?;
+    let factor = day_factor(rate).unwrap();
+    Ok(correct_day(price, factor).unwrap())
 }
 
 // A price that was carried to a day, carried over that day too: by its rate if it is a reserve day.
@@ -77,39 +93,31 @@ fn day_on<C: Calendar, S: RateSource>(
 fn carry<C: Calendar, S: RateSource>(
     calendar: &C,
     source: &S,
-    from: u32,
-    to: u32,
-    price: u32,
+    gap: Gap,
 ) -> Result<u64, Uncorrected>
-    requires { Short (C.kinds calendar.now) from to }
-    ensures { Answer (C.kinds calendar.now) (S.rates source.now) from to price result }
+    requires { Short (C.kinds calendar.now) gap.from gap.to }
+    ensures { Answer (C.kinds calendar.now) (S.rates source.now) gap.from gap.to gap.price result }
 {
-    let end = to.min(LAST_DAY + 1);
-    let mut carried = price as u64;
-    for day in from..end {
-        match day_on(calendar, source, day, carried) {
-            Ok(next) => carried = next,
-            Err(missing) => return Err(missing),
-        }
+    let end = gap.to.min(LAST_DAY + 1);
+    let mut carried = gap.price as u64;
+    for day in gap.from..end {
+        carried = day_on(calendar, source, day, carried)?;
     }
     Ok(carried)
 }
 
-// The price of a session, corrected over the reserve days from it, included, to a later day,
-// excluded.
+// The price of a gap's session, corrected over the reserve days of the gap.
 pub fn correct<C: Calendar, S: RateSource>(
     calendar: &C,
     source: &S,
-    from: u32,
-    to: u32,
-    price: u32,
+    gap: Gap,
 ) -> Result<u64, Uncorrected>
-    ensures { Answer (C.kinds calendar.now) (S.rates source.now) from to price result }
+    ensures { Answer (C.kinds calendar.now) (S.rates source.now) gap.from gap.to gap.price result }
 {
-    if count_reserve_days(calendar, from, to) > MOST_DAYS {
+    if count_reserve_days(calendar, gap.from, gap.to) > MOST_DAYS {
         return Err(Uncorrected::TooLong);
     }
-    carry(calendar, source, from, to, price)
+    carry(calendar, source, gap)
 }
 
 #[cfg(test)]

@@ -8,10 +8,7 @@ use std::test::Fail;
 fn over_the_new_year(rt: HostRuntime) -> Result<(), Fail> {
     let calendar = RuleCalendar::new(
         rt.alloc(),
-        &[Exception {
-            day: 9_862,
-            kind: 0,
-        }],
+        &[Exception::of_mark(9_862, 0)],
     )?;
     let two_days = Horizon {
         first: 9_860,
@@ -42,7 +39,7 @@ fn over_the_new_year(rt: HostRuntime) -> Result<(), Fail> {
         (0, u32::MAX, 1, Err(Uncorrected::TooLong)),
     ];
     for (from, to, price, expected) in rows {
-        assert_eq!(rt; correct(&calendar, &source, from, to, price), expected);
+        assert_eq!(rt; correct(&calendar, &source, Gap { from, to, price }), expected);
     }
     Ok(())
 }

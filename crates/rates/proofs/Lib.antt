@@ -1,3 +1,1 @@
-pub mod Emptiness
 pub mod Laws
-pub mod Refusing

@@ -7,7 +7,7 @@ loop-day-init g c = (carried_none _ _ _ _, λ _. refl)
 
 pub day_on-requires : goal.day_on-requires
 day_on-requires g c =
-    small _ (g.met.C.Calendar.ends c.args.calendar.now) _ c.args.from c.args.to c.min-end.result _ _ _ c.min-end.ensures c.requires c.loop-day.auto.day c.loop-day-test.true (omega arith) c.loop-day.invariant.0
+    small _ (g.met.C.Calendar.ends c.args.calendar.now) _ c.args.gap.from c.args.gap.to c.min-end.result _ _ _ c.min-end.ensures c.requires c.loop-day.auto.day c.loop-day-test.true (omega arith) c.loop-day.invariant.0
 
 pub returns : goal.returns
 returns g c =

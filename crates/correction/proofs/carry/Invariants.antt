@@ -4,5 +4,5 @@ use Rattle.correction.proofs.carry.Given as goal
 
 abbrev pub invariant-loop-day : goal.invariant-loop-day
 invariant-loop-day g l =
-    Carried (g.C.Calendar.kinds l.calendar) (g.S.RateSource.rates l.source) l.from l.day l.price l.carried
-    × (l.end ≤ l.from → l.carried ≡ l.price)
+    Carried (g.C.Calendar.kinds l.calendar) (g.S.RateSource.rates l.source) l.fn.gap.from l.day l.fn.gap.price l.carried
+    × (l.end ≤ l.fn.gap.from → l.carried ≡ l.fn.gap.price)

@@ -9,5 +9,5 @@ invariant_of-self g c =
     let x = c.args.self.now in
     record { few = omega arith; room = omega arith; limited = ap within_limit c.push_reserved.ensures.items ∙ limit-more (vec_items x.days) (record { day = c.args.day; rate = c.args.rate }) x.limited c.requires.limit }
 
-pub returns : goal.returns
-returns g c = record { below = search rules; kept = search rules; sets = search (rules, layer-more) }
+pub returns-clause-sets : goal.returns-clause-sets
+returns-clause-sets g c = search (rules, layer-more)
