@@ -1,15 +1,14 @@
 use Rattle.std.proofs.Common.{arith, rules, ap, ◌∙◌}
 use Rattle.sheet.specs.Lines.{trades_left}
-use Rattle.sheet.specs.Views.{view_trades, view_count, view_bytes}
-use Rattle.sheet.proofs.SheetLaws.{length-lines}
+use Rattle.sheet.specs.Views.{view_trades}
+use Rattle.sheet.proofs.ReadLaws.{few-trades}
 use Rattle.pricing.proofs.Parts.{part_none, part-more, part_same, part-all}
 use Rattle.pricing.proofs.sums.add_up.Goals as goal
 
 pub loop-trade-init : goal.loop-trade-init
 loop-trade-init g c =
     let v = c.args.view.now in
-    let n = length-lines (view_count v) (view_bytes v) in
-    (search rules, search rules, part_none _ (view_trades v) (trades_left c.into_iter-trade-iterator.result) (search rules) (omega (arith, n, v.counted, v.sheet.0.1)))
+    (search rules, search rules, part_none _ (view_trades v) (trades_left c.into_iter-trade-iterator.result) (search rules) (omega (arith, few-trades v)))
 
 pub loop-trade-preserved-then-picks : goal.loop-trade-preserved-then-picks
 loop-trade-preserved-then-picks g c =
