@@ -1,4 +1,4 @@
-use Rattle.std.proofs.Common.{arith, rules, ap, ◌∙◌}
+use Rattle.std.proofs.Common.{arith, rules}
 use Rattle.sheet.specs.Lines.{trades_left}
 use Rattle.sheet.specs.Views.{view_trades}
 use Rattle.sheet.proofs.ReadLaws.{few-trades}
