@@ -1,55 +1,53 @@
--- The lines and contracts of the first trades of a sheet, one trade on.
-use Rattle.std.proofs.Common.{◌≡◌, ℕ, ◌+◌, ◌<◌, ◌≤◌, Bool, true, false, cond, List, [], ◌∷◌, ◌++◌, length, get_or, take, Some, None, sum_by, filter, sym, refl, ap, ◌∙◌, arith}
-use Rattle.std.specs.List.{slice_get}
-use Rattle.std.proofs.lemmas.List.Elements.{filter_more}
-use Rattle.std.proofs.lemmas.List.{append-nil, length_push, take_all}
-use Rattle.std.proofs.lemmas.Option.{slice_get-get_or}
-use Rattle.std.proofs.lemmas.List.Sums.{sum_by_push}
+-- The lines and contracts of the trades so far, and of the trades that are left, one trade on.
+use Rattle.std.proofs.Common.{◌≡◌, ℕ, ◌+◌, ◌*◌, ◌<◌, ◌≤◌, Bool, true, false, cond, List, [], ◌∷◌, length, sum_by, filter, sym, ap, ◌∙◌, arith}
+use Rattle.std.proofs.lemmas.List.Sums.{sum_by-cons}
 use Rattle.sheet.specs.declared.trade.Trade.{Trade}
 
--- the lines and the contracts of the first i trades that pass a test
-pub record Part (P : Trade → Bool) (ts : List Trade) (i lines contracts : ℕ) : Type 0 where
-  pub lines_are : lines ≡ length (filter P (take i ts))
-  pub contracts-are : contracts ≡ sum_by (λ x. x.quantity) (filter P (take i ts))
+-- what was added up of the trades that pass a test makes, with what is left, the whole; and it fits
+pub record Part (P : Trade → Bool) (all left : List Trade) (lines contracts : ℕ) : Type 0 where
+  pub lines-are : lines + length (filter P left) ≡ length (filter P all)
+  pub contracts-are : contracts + sum_by (λ x. x.quantity) (filter P left) ≡ sum_by (λ x. x.quantity) (filter P all)
+  pub lines-fit : lines + length left ≤ 65536
+  pub contracts-fit : contracts + length left * 4294967296 ≤ 281474976710656
 
-pub part_none : (P : Trade → Bool) (ts : List Trade) → Part P ts 0 0 0
-part_none P ts = record { lines_are = refl; contracts-are = refl }
-
-here : (P : Trade → Bool) (ts : List Trade) (i : ℕ) (t : Trade) → i < length ts → slice_get ts i ≡ Some t
-    → filter P (take (i + 1) ts) ≡ filter P (take i ts) ++ cond (P t) (t ∷ []) []
-here P ts i t h e =
-    let is : get_or ts i t ≡ t = let f = slice_get-get_or ts i t h in cc in
-    filter_more P ts i t h ∙ ap (λ x. filter P (take i ts) ++ cond (P x) (x ∷ []) []) is
-
-pub part-more : (P : Trade → Bool) (ts : List Trade) (i : ℕ) (t : Trade) (lines contracts : ℕ) → i < length ts → slice_get ts i ≡ Some t → P t ≡ true
-    → Part P ts i lines contracts → Part P ts (i + 1) (lines + 1) (contracts + t.quantity)
-part-more P ts i t lines contracts h e yes-it part =
-    let k : filter P (take (i + 1) ts) ≡ filter P (take i ts) ++ t ∷ [] =
-    here P ts i t h e ∙ ap (λ b. filter P (take i ts) ++ cond b (t ∷ []) []) yes-it in
+pub part_none : (P : Trade → Bool) (all left : List Trade) → left ≡ all → length all ≤ 65536 → Part P all left 0 0
+part_none P all left e n =
+    let l = ap length e in
     record {
-      lines_are = ap (λ n. n + 1) part.lines_are ∙ sym (ap length k ∙ length_push (filter P (take i ts)) t);
-      contracts-are =
-          ap (λ n. n + t.quantity) part.contracts-are
-          ∙ sym (ap (sum_by (λ x. x.quantity)) k ∙ sum_by_push (λ x. x.quantity) (filter P (take i ts)) t);
+      lines-are = omega (arith, ap (λ ts. length (filter P ts)) e);
+      contracts-are = omega (arith, ap (λ ts. sum_by (λ x. x.quantity) (filter P ts)) e);
+      lines-fit = omega arith;
+      contracts-fit = omega arith;
     }
 
-pub part_same : (P : Trade → Bool) (ts : List Trade) (i : ℕ) (t : Trade) (lines contracts : ℕ) → i < length ts → slice_get ts i ≡ Some t → P t ≡ false
-    → Part P ts i lines contracts → Part P ts (i + 1) lines contracts
-part_same P ts i t lines contracts h e no-it part =
-    let k : filter P (take (i + 1) ts) ≡ filter P (take i ts) =
-    here P ts i t h e ∙ ap (λ b. filter P (take i ts) ++ cond b (t ∷ []) []) no-it ∙ append-nil (filter P (take i ts)) in
-    record { lines_are = part.lines_are ∙ sym (ap length k); contracts-are = part.contracts-are ∙ sym (ap (sum_by (λ x. x.quantity)) k) }
+module _ (P : Trade → Bool) (all left : List Trade) (t : Trade) (rest : List Trade) (lines contracts : ℕ) (e : left ≡ t ∷ rest) (part : Part P all left lines contracts) where
+  first : filter P left ≡ cond (P t) (t ∷ filter P rest) (filter P rest)
+  first = ap (filter P) e
 
--- a line of the sheet has a trade
-pub never-none : (ts : List Trade) (i : ℕ) → i < length ts → None ≡ slice_get ts i → ⊥
-never-none ts i h e = none ts i h e
-  where
-    none : (ts : List Trade) (i : ℕ) → i < length ts → None ≡ slice_get ts i → ⊥
-    none [] i h e = omega arith
-    none (t ∷ ts) i h e = let f = slice_get-get_or (t ∷ ts) i t h in let z : ◌≡◌ {A = ℕ} 0 1 = cc in omega arith
+  pub part-more : true ≡ P t → t.quantity < 4294967296 → Part P all rest (lines + 1) (contracts + t.quantity)
+  part-more yes-it q =
+      let k : filter P left ≡ t ∷ filter P rest = first ∙ ap (λ b. cond b (t ∷ filter P rest) (filter P rest)) (sym yes-it) in
+      let l = ap length e in
+      record {
+        lines-are = omega (arith, ap length k, part.lines-are);
+        contracts-are = omega (arith, ap (sum_by (λ x. x.quantity)) k, sum_by-cons (λ (x : Trade). x.quantity) t (filter P rest), part.contracts-are);
+        lines-fit = omega (arith, l, part.lines-fit);
+        contracts-fit = omega (arith, l, part.contracts-fit);
+      }
 
-pub part-all : (P : Trade → Bool) (ts : List Trade) (i lines contracts : ℕ) → length ts ≤ i → Part P ts i lines contracts
-    → (lines ≡ length (filter P ts)) × (contracts ≡ sum_by (λ x. x.quantity) (filter P ts))
-part-all P ts i lines contracts h part =
-    let e = take_all i ts h in
-    (part.lines_are ∙ ap (λ xs. length (filter P xs)) e, part.contracts-are ∙ ap (λ xs. sum_by (λ x. x.quantity) (filter P xs)) e)
+  pub part_same : false ≡ P t → Part P all rest lines contracts
+  part_same no-it =
+      let k : filter P left ≡ filter P rest = first ∙ ap (λ b. cond b (t ∷ filter P rest) (filter P rest)) (sym no-it) in
+      let l = ap length e in
+      record {
+        lines-are = omega (arith, ap length k, part.lines-are);
+        contracts-are = omega (arith, ap (sum_by (λ x. x.quantity)) k, part.contracts-are);
+        lines-fit = omega (arith, l, part.lines-fit);
+        contracts-fit = omega (arith, l, part.contracts-fit);
+      }
+
+pub part-all : (P : Trade → Bool) (all left : List Trade) (lines contracts : ℕ) → left ≡ [] → Part P all left lines contracts
+    → (lines ≡ length (filter P all)) × (contracts ≡ sum_by (λ x. x.quantity) (filter P all))
+part-all P all left lines contracts e part =
+    let k = ap (filter P) e in
+    (omega (arith, ap length k, part.lines-are), omega (arith, ap (sum_by (λ x. x.quantity)) k, part.contracts-are))

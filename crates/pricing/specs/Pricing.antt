@@ -1,9 +1,11 @@
 -- The price of a trade on a calendar, and the causes for which it has none.
-use Rattle.std.specs.Prelude.{◌≡◌, ℕ, ◌-◌, Bool, cond, not, List, [], ◌∷◌, length, is_some, Some, None, Option, Result, MatchResult, nat_le, nat_lt}
+use Rattle.std.specs.Prelude.{◌≡◌, ℕ, ◌-◌, Bool, cond, not, List, [], ◌∷◌, codes, length, is_some, Some, None, Option, Result, MatchResult, nat_le, nat_lt}
 use Rattle.std.specs.Option.{unwrap_or}
 use Rattle.dates.specs.Months.{month_of}
 use Rattle.calendar.specs.declared.kind.DayKind.{DayKind}
 use Rattle.calendar.specs.Spans.{expiry_of, reserve_days}
+use Rattle.interest.specs.declared.prices.Unpriceable.{Unpriceable}
+use Rattle.interest.specs.declared.prices.Unpriceable.TheVariants as prices
 use Rattle.interest.specs.Price.{trade_price}
 use Rattle.interest.specs.Tick.{on_tick}
 use Rattle.refusal.specs.declared.Refusal.{Refusal}
@@ -82,3 +84,16 @@ cause_refusal Expired = refusals.Expired
 cause_refusal RateTooHigh = BadRate
 cause_refusal OffTick = BadRate
 cause_refusal TooFar = refusals.TooFar
+
+-- the cause that a rate without a price is
+abbrev pub unpriceable_cause : Unpriceable → Cause
+unpriceable_cause prices.RateTooHigh = RateTooHigh
+unpriceable_cause prices.TooFar = TooFar
+
+-- the words of each cause
+abbrev pub message : Cause → List ℕ
+message NoSession = codes "month has no session"
+message Expired = codes "expired"
+message RateTooHigh = codes "rate over 99.999 %"
+message OffTick = codes "rate off the tick"
+message TooFar = codes "over 2520 reserve days"

@@ -1,7 +1,7 @@
 // Lines and contracts of the trades of a sheet, added up over a choice of them.
 ghost use Rattle.std.specs.Prelude.{◌≡◌, ℕ, Bool, true, ◌==◌};
 ghost use Rattle.sheet.specs.declared.trade.Trade.{Trade};
-ghost use Rattle.sheet.specs.Views.{view_trades, Sound};
+ghost use Rattle.sheet.specs.Views.{view_trades};
 ghost use Rattle.pricing.specs.Pricing.{is_priced};
 ghost use Rattle.pricing.specs.Tallies.{Tallied};
 
@@ -10,6 +10,7 @@ use calendar::kind::Calendar;
 use sheet::{SheetView, Trade};
 
 // A choice of trades.
+// Kept: of a closure the totals could say only what its `post` says, and would ask more of callers; `picked` gives the choice its meaning.
 pub trait Pick {
     ghost picked: { Self → Trade → Bool };
 
@@ -67,16 +68,14 @@ pub struct Tally {
 
 // Adds up the trades of a sheet that are picked.
 pub fn add_up<P: Pick>(view: &SheetView<'_>, pick: &P) -> Tally
-    ensures { Sound view.now → Tallied (P.picked pick.now) (view_trades view.now) result }
+    ensures { Tallied (P.picked pick.now) (view_trades view.now) result }
 {
     let mut lines = 0;
     let mut contracts: u64 = 0;
-    for line in 0..view.count() {
-        if let Some(trade) = view.trade(line) {
-            if pick.picks(trade) {
-                lines += 1;
-                contracts += trade.quantity as u64;
-            }
+    for trade in view.trades() {
+        if pick.picks(trade) {
+            lines += 1;
+            contracts += trade.quantity as u64;
         }
     }
     Tally { lines, contracts }

@@ -1,5 +1,7 @@
 use crate::*;
 use calendar::rule::{Exception, RuleCalendar};
+use interest::Unpriceable;
+use refusal::Refusal;
 use sheet::{Trade, read, write};
 use std::test::Fail;
 
@@ -49,6 +51,25 @@ fn priced_at_the_edges(rt: HostRuntime) -> Result<(), Fail> {
     }
     assert!(rt; price_trade(&calendar, 9_860, trade(327, 5)).is_ok());
     assert!(rt; price_trade(&calendar, 9_860, trade(336, 20)).is_ok());
+    Ok(())
+}
+
+#[test]
+fn causes_said(rt: HostRuntime) -> Result<(), Fail> {
+    let text = format!(in rt.alloc();
+        "{}; {}; {}; {}; {}",
+        Cause::NoSession,
+        Cause::Expired,
+        Cause::RateTooHigh,
+        Cause::OffTick,
+        Cause::TooFar
+    )?;
+    assert!(rt;
+        text.as_str()
+            == "month has no session; expired; rate over 99.999 %; rate off the tick; over 2520 reserve days"
+    );
+    assert_eq!(rt; Refusal::from(Cause::OffTick), Refusal::BadRate);
+    assert_eq!(rt; Cause::from(Unpriceable::TooFar), Cause::TooFar);
     Ok(())
 }
 

@@ -1,6 +1,6 @@
 // The price of a trade on a calendar, or why it has none.
-ghost use Rattle.std.specs.Prelude.{◌≡◌};
-ghost use Rattle.pricing.specs.Pricing.{Answer, cause_refusal, turned};
+ghost use Rattle.std.specs.Prelude.{◌≡◌, Some};
+ghost use Rattle.pricing.specs.Pricing.{Answer, cause_refusal, message, turned, unpriceable_cause};
 
 use calendar::kind::Calendar;
 use calendar::span::{count_reserve_days, expiry};
@@ -8,6 +8,8 @@ use dates::month_of;
 use interest::{Unpriceable, on_tick, trade_price};
 use refusal::Refusal;
 use sheet::Trade;
+use std::error::Error;
+use std::fmt;
 
 // The greatest dealt rate, in thousandths of a percent.
 const MOST_RATE: u32 = 99_999;
@@ -49,12 +51,39 @@ pub enum Cause {
     TooFar,
 }
 
-impl Cause {
-    // The refusal that the cause is.
-    pub fn refusal(self) -> Refusal
-        ensures { result ≡ cause_refusal self }
-    {
+impl fmt::Display for Cause {
+    ghost output = { λ cause. Some (message cause) };
+
+    fn fmt<W: fmt::Write>(&self, f: &mut fmt::Formatter<W>) -> fmt::Result {
         match self {
+            Cause::NoSession => write!(f, "month has no session"),
+            Cause::Expired => write!(f, "expired"),
+            Cause::RateTooHigh => write!(f, "rate over 99.999 %"),
+            Cause::OffTick => write!(f, "rate off the tick"),
+            Cause::TooFar => write!(f, "over 2520 reserve days"),
+        }
+    }
+}
+
+impl Error for Cause {}
+
+impl From<Unpriceable> for Cause {
+    ghost from_gives = { λ unpriceable cause. cause ≡ unpriceable_cause unpriceable };
+
+    fn from(unpriceable: Unpriceable) -> Cause {
+        match unpriceable {
+            Unpriceable::RateTooHigh => Cause::RateTooHigh,
+            Unpriceable::TooFar => Cause::TooFar,
+        }
+    }
+}
+
+// The refusal that a cause is.
+impl From<Cause> for Refusal {
+    ghost from_gives = { λ cause refusal. refusal ≡ cause_refusal cause };
+
+    fn from(cause: Cause) -> Refusal {
+        match cause {
             Cause::NoSession => Refusal::NoExpiry,
             Cause::Expired => Refusal::Expired,
             Cause::RateTooHigh | Cause::OffTick => Refusal::BadRate,
@@ -71,32 +100,25 @@ pub fn price_trade<C: Calendar>(
 ) -> Result<PricedTrade, Cause>
     ensures { Answer (C.kinds calendar.now) session trade result }
 {
-    let Some(expiry) = expiry(calendar, trade.month) else {
-        return Err(Cause::NoSession);
-    };
+    let expiry = expiry(calendar, trade.month).ok_or(Cause::NoSession)?;
     if expiry <= session {
         return Err(Cause::Expired);
     }
     if trade.rate > MOST_RATE {
         return Err(Cause::RateTooHigh);
     }
-    let Some(month) = month_of(session) else {
-        unreachable()
-    };
+    let month = month_of(session).unwrap();
     if !on_tick(trade.rate, trade.month.saturating_sub(month)) {
         return Err(Cause::OffTick);
     }
     let days = count_reserve_days(calendar, session, expiry);
     let Sides { buyer, seller } = in_price(trade);
-    match trade_price(trade.rate, days) {
-        Ok(price) => Ok(PricedTrade {
-            buyer,
-            seller,
-            expiry,
-            days,
-            price,
-        }),
-        Err(Unpriceable::RateTooHigh) => Err(Cause::RateTooHigh),
-        Err(Unpriceable::TooFar) => Err(Cause::TooFar),
-    }
+    let price = trade_price(trade.rate, days)?;
+    Ok(PricedTrade {
+        buyer,
+        seller,
+        expiry,
+        days,
+        price,
+    })
 }

@@ -1,5 +1,5 @@
 -- From what reading found to what the bytes are. Assumes nothing.
-use Rattle.std.proofs.Common.{◌≡◌, ℕ, ◌+◌, ◌<◌, ◌≤◌, true, false, List, [], ◌∷◌, get_or, drop, is_some, Some, None, Ok, Err, Option, Result, inl, inr, sym, ap, ◌∙◌, subst, arith, w8, Fits, MatchOption}
+use Rattle.std.proofs.Common.{◌≡◌, ℕ, ◌+◌, ◌<◌, ◌≤◌, true, false, List, [], ◌∷◌, length, get_or, drop, is_some, Some, None, Ok, Err, Option, Result, inl, inr, sym, ap, ◌∙◌, subst, arith, w8, Fits, MatchOption}
 use Rattle.std.specs.Result as results
 use Rattle.std.proofs.ByRecursion.{All-from_get_or}
 use Rattle.std.specs.List.{slice_get}
@@ -12,8 +12,8 @@ use Rattle.sheet.specs.declared.trade.SheetFault.{SheetFault}
 use Rattle.sheet.specs.declared.trade.SheetFault.TheVariants.{Length, Count, Day, Code}
 use Rattle.sheet.specs.declared.view.SheetView.{SheetView}
 use Rattle.sheet.specs.Codes.{month_of, IsCode, Names, NoCode}
-use Rattle.sheet.specs.Sheet.{sheet_bytes, Valid, Sheet, Refused, OnDay, count_of, day_of, code_of, lines_of, trades_of}
-use Rattle.sheet.specs.Views.{view_bytes, view_day, view_trades, Sound, Accepted, Outcome, ReadsBack}
+use Rattle.sheet.specs.Sheet.{sheet_bytes, Valid, Sheet, Refused, OnDay, most_trades, count_of, day_of, code_of, lines_of, trades_of}
+use Rattle.sheet.specs.Views.{view_bytes, view_day, view_count, view_trades, Sound, Accepted, Outcome, ReadsBack}
 use Rattle.sheet.proofs.CodeLaws.{is_code}
 use Rattle.sheet.proofs.SheetLaws.{Bytes, length-lines, written_back, read_back, read-valid}
 
@@ -54,6 +54,10 @@ pub one_left : (ts : List Trade) (i : ℕ) (t : Trade) → Some t ≡ slice_get 
 one_left ts i t e =
     drop_more ts i t (slice_get_within ts i t (sym e)) ∙ ap (λ (x : Trade). x ∷ drop (i + 1) ts) (get_or_from_slice_get ts i t t (sym e))
 
+-- a view has as many trades as its head counts, and no more than a sheet
+pub few-trades : (v : SheetView) → length (view_trades v) ≤ most_trades
+few-trades v = omega (arith, length-lines (view_count v) (view_bytes v), v.frame.counted, v.frame.framed.1)
+
 -- ---- a view over bytes that were found sound
 
 pub accepted : (bytes : List ℕ) (ticket : Option ℕ) (v : SheetView) → Bytes bytes → view_bytes v ≡ bytes → Sound v → OnDay ticket (view_day v)
@@ -67,9 +71,9 @@ accepted bytes ticket v b e s d =
       sound = s;
       over = e;
       valid =
-          subst (λ (x : ℕ). Valid x (lines_of v.count (view_bytes v))) (sym m)
+          subst (λ (x : ℕ). Valid x (lines_of (view_count v) (view_bytes v))) (sym m)
           (subst (λ (x : ℕ). Valid (day_of (view_bytes v)) (lines_of x (view_bytes v))) (sym n) (read-valid (view_bytes v) bb s.0));
-      counted = length-lines v.count (view_bytes v);
+      counted = length-lines (view_count v) (view_bytes v);
       written = cc;
       dated = d;
     }

@@ -1,5 +1,5 @@
 -- What is written is read as its trades, and what is read is written as its bytes. Assumes nothing.
-use Rattle.std.proofs.Common.{◌≡◌, ℕ, ◌+◌, ◌-◌, ◌*◌, ◌^◌, ◌<◌, ◌≤◌, List, [], ◌++◌, length, get_or, take, drop, Some, None, sym, refl, ap, ◌∙◌, subst, append_assoc, arith}
+use Rattle.std.proofs.Common.{◌≡◌, ℕ, ◌+◌, ◌-◌, ◌*◌, ◌^◌, ◌<◌, ◌≤◌, List, [], ◌++◌, length, get_or, take, drop, Some, None, sym, refl, ap, ◌∙◌, subst, arith}
 use borrow.Rule.Slice.PartMut.{put_mid}
 use lib.Lanes.{chunk}
 use Rattle.std.specs.List.{flat_map, AllByRecursion, slice_get}
@@ -13,7 +13,7 @@ use Rattle.sheet.specs.Codes.{code_bytes, last_month, month_of, IsCode}
 use Rattle.sheet.specs.Sheet.{little, number, sides, terms, sheet_bytes, most_trades, FitsLine, Valid, count_of, day_of, sides_at, terms_at, code_of, trade_from, lines_of, trades_of, Sheet}
 use Rattle.sheet.proofs.CodeLaws.{month-back, is_code}
 use Rattle.sheet.proofs.Bytes.{number-little, little-number, number-below, chunk-past, chunk-chunk, chunk-split}
-use Rattle.sheet.proofs.Rows.{length-joined, row-joined, joined-rows, part-more, three-parts}
+use Rattle.sheet.proofs.Rows.{length-joined, row-joined, joined-rows, three-parts}
 
 -- bytes
 abbrev pub Bytes : List ℕ → Type 0

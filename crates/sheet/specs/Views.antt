@@ -7,13 +7,13 @@ use Rattle.sheet.specs.Sheet.{sheet_bytes, Valid, Sheet, count_of, day_of, lines
 
 -- the bytes under a view, and the session day, the count and the trades that it gives
 abbrev pub view_bytes : SheetView → List ℕ
-view_bytes v = v.bytes.now
+view_bytes v = v.frame.bytes.now
 
 abbrev pub view_day : SheetView → ℕ
-view_day v = v.day
+view_day v = v.frame.day
 
 abbrev pub view_count : SheetView → ℕ
-view_count v = v.count
+view_count v = v.frame.count
 
 abbrev pub view_trades : SheetView → List Trade
 view_trades v = lines_of (view_count v) (view_bytes v)

@@ -1,21 +1,20 @@
 // A trade sheet as its bytes hold it.
-ghost use Rattle.std.specs.Prelude.{◌≡◌};
-ghost use Rattle.sheet.specs.Sheet.{Sheet, count_of, day_of};
+ghost use Rattle.std.specs.Prelude.{ℕ, ◌<◌};
+ghost use Rattle.sheet.specs.Codes.{IsCode};
+ghost use Rattle.sheet.specs.Sheet.{count_of, code_of};
 
+mod frame;
 mod methods;
 mod reading;
 mod trades;
 
+use frame::Frame;
 pub use reading::{read, read_for};
 pub use trades::Trades;
 
-// An accepted sheet: its head, and the bytes that hold the rest.
+// An accepted sheet: each line has a code.
 #[derive(Clone, Copy, Debug)]
 pub struct SheetView<'a> {
-    bytes: &'a [u8],
-    count: u16,
-    day: u16,
-    ghost sheet: { Sheet bytes.now },
-    ghost counted: { count ≡ count_of bytes.now },
-    ghost dated: { day ≡ day_of bytes.now },
+    frame: Frame<'a>,
+    ghost coded: { (line : ℕ) → line < count_of frame.bytes.now → IsCode (code_of frame.bytes.now line) },
 }

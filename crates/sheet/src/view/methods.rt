@@ -15,7 +15,7 @@ impl SheetView<'_> {
     pub fn day(&self) -> u32
         ensures { (result ≡ view_day self.now) × (result < 2 ^ 16) }
     {
-        self.day as u32
+        self.frame.day as u32
     }
 
     // How many trades there are.
@@ -23,7 +23,7 @@ impl SheetView<'_> {
         ensures value { (result ≡ view_count self.now) × (result < 2 ^ 16) }
         ensures sound { Sound self.now }
     {
-        self.count as usize
+        self.frame.count as usize
     }
 
     // The trade of a line, counted from 0.
@@ -31,26 +31,11 @@ impl SheetView<'_> {
         ensures past { view_count self.now ≤ line → result ≡ None }
         ensures value { result ≡ slice_get (view_trades self.now) line }
     {
-        let count = self.count();
-        if line >= count {
+        if line >= self.count() {
             return None;
         }
-        let sides = 4 + 2 * line;
-        trade_from(
-            &self.bytes[sides..sides + 2],
-            terms_of(self.bytes, count, line),
-        )
+        trade_from(self.frame.sides(line), self.frame.terms(line))
     }
-}
-
-// The terms of a line, behind the sides of all lines.
-pub(super) fn terms_of(bytes: &[u8], count: usize, line: usize) -> &[u8]
-    requires room { 4 + 2 * count + 14 * line + 14 ≤ length bytes.now }
-    ensures value { result.now ≡ terms_at count bytes.now line }
-    ensures length { length result.now ≡ 14 }
-{
-    let from = 4 + 2 * count + 14 * line;
-    &bytes[from..from + 14]
 }
 
 // The trade that its sides and its terms say, if the code is one.

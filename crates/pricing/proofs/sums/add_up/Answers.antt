@@ -1,38 +1,24 @@
-use Rattle.std.proofs.Common.{sym, arith}
-use Rattle.sheet.specs.Views.{view_trades, view_count, view_bytes}
-use Rattle.sheet.proofs.SheetLaws.{length-lines}
-use Rattle.pricing.proofs.Parts.{part-more, part_same, part-all, never-none}
+use Rattle.std.proofs.Common.{arith, rules}
+use Rattle.sheet.specs.Lines.{trades_left}
+use Rattle.sheet.specs.Views.{view_trades}
+use Rattle.sheet.proofs.ReadLaws.{few-trades}
+use Rattle.pricing.proofs.Parts.{part_none, part-more, part_same, part-all}
 use Rattle.pricing.proofs.sums.add_up.Goals as goal
-use Rattle.pricing.proofs.sums.add_up.Goals.{in-Some+then-picks, in-Some+else-picks, in_default}
 
-pub loop-line-preserved : goal.loop-line-preserved
-loop-line-preserved g c =
-    let n = length-lines (view_count c.args.view.now) (view_bytes c.args.view.now) in
-    elim c.match-trade.branch [
-      | in-Some+then-picks w ↦
-          rw (w.lines-is, w.contracts-is)
-          ((
-            omega arith,
-            omega arith,
-            λ sound.
-                part-more _ _ _ w.in-Some.trade _ _ (omega arith) (sym (w.in-Some.ensures.value sound)) (sym w.if-picks.ensures)
-                (c.loop-line.invariant.2 sound),
-          ))
-      | in-Some+else-picks w ↦
-          rw (w.lines-is, w.contracts-is)
-          ((
-            omega arith,
-            omega arith,
-            λ sound.
-                part_same _ _ _ w.in-Some.trade _ _ (omega arith) (sym (w.in-Some.ensures.value sound)) (sym w.if-picks.ensures)
-                (c.loop-line.invariant.2 sound),
-          ))
-      | in_default w ↦
-          rw (w.lines-is, w.contracts-is)
-          ((omega arith, omega arith, λ sound. absurd (never-none (view_trades c.args.view.now) c.loop-line.line (omega arith) (w.in_default.ensures.value sound))))
-    ]
+pub loop-trade-init : goal.loop-trade-init
+loop-trade-init g c =
+    let v = c.args.view.now in
+    (search rules, search rules, part_none _ (view_trades v) (trades_left c.into_iter-trade-iterator.result) (search rules) (omega (arith, few-trades v)))
+
+pub loop-trade-preserved-then-picks : goal.loop-trade-preserved-then-picks
+loop-trade-preserved-then-picks g c =
+    (search rules, search rules, part-more _ _ _ c.in-Some.trade _ _ _ c.in-Some.ensures.steps c.loop-trade.invariant.2 c.if-picks.ensures (omega arith))
+
+pub loop-trade-preserved : goal.loop-trade-preserved
+loop-trade-preserved g c =
+    (search rules, search rules, part_same _ _ _ c.in-Some.trade _ _ _ c.in-Some.ensures.steps c.loop-trade.invariant.2 c.if-picks.ensures)
 
 pub returns : goal.returns
-returns g c sound =
-    let n = length-lines (view_count c.args.view.now) (view_bytes c.args.view.now) in
-    let all = part-all _ _ _ _ _ (omega arith) (c.loop-line.invariant.2 sound) in record { lines = all.0; contracts = all.1 }
+returns g c =
+    let all = part-all _ _ _ _ _ c.in-None.ensures.steps.0 c.loop-trade.invariant.2 in
+    record { lines = all.0; contracts = all.1 }

@@ -1,6 +1,5 @@
-use Rattle.std.proofs.Common.{◌≤◌, ◌++◌, List, ℕ, ap, ◌∙◌, arith}
+use Rattle.std.proofs.Common.{◌≤◌, arith}
 use Rattle.std.proofs.ByRecursion.{All-get_or}
-use Rattle.std.specs.List.{flat_map}
 use Rattle.sheet.specs.Codes.{last_month}
 use Rattle.sheet.specs.Sheet.{sides, terms}
 use Rattle.sheet.proofs.Rows.{row_more, rows_all}

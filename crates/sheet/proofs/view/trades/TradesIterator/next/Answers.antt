@@ -1,4 +1,4 @@
-use Rattle.std.proofs.Common.{◌≡◌, ◌+◌, length, ap, sym, arith, rules}
+use Rattle.std.proofs.Common.{length, ap, arith, rules}
 use Rattle.sheet.specs.Views.{view_trades}
 use Rattle.sheet.proofs.ReadLaws.{none_left, one_left}
 use Rattle.sheet.proofs.view.trades.TradesIterator.next.Goals as goal

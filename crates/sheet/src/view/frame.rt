@@ -1,0 +1,76 @@
+// The frame of a sheet: its head, and the bytes of its lines.
+ghost use Rattle.std.specs.Prelude.{◌≡◌, ℕ, ◌<◌, length, Decides, Option, MatchOption, MatchResult};
+ghost use Rattle.sheet.specs.Codes.{IsCode};
+ghost use Rattle.sheet.specs.Sheet.{Framed, Refused, count_of, day_of, code_of, sides_at, terms_at};
+
+use crate::code::ContractCode;
+use crate::numbers::array_of;
+use crate::trade::{MOST_TRADES, SheetFault};
+
+// Bytes whose length is that of a sheet, with the count and the day of their head.
+// Kept: the bytes stay whole, as what is said of them is; sides and terms apart would be two slices and still the count.
+#[derive(Clone, Copy, Debug)]
+pub(super) struct Frame<'a> {
+    bytes: &'a [u8],
+    pub(super) count: u16,
+    pub(super) day: u16,
+    ghost framed: { Framed bytes.now },
+    ghost counted: { count ≡ count_of bytes.now },
+    ghost dated: { day ≡ day_of bytes.now },
+}
+
+impl<'a> Frame<'a> {
+    // The frame of bytes, if their count is in range and their length is that of so many trades.
+    pub(super) fn of(bytes: &'a [u8]) -> Result<Frame<'a>, SheetFault>
+        ensures { MatchResult result (λ f. f.bytes.now ≡ bytes.now) (λ f. (ticket : Option ℕ) → Refused bytes.now ticket f) }
+    {
+        if bytes.len() < 4 {
+            return Err(SheetFault::Length);
+        }
+        let count = u16::from_le_bytes(array_of(&bytes[0..2]));
+        let day = u16::from_le_bytes(array_of(&bytes[2..4]));
+        if count > MOST_TRADES {
+            return Err(SheetFault::Count);
+        }
+        if bytes.len() != 4 + 16 * count as usize {
+            return Err(SheetFault::Length);
+        }
+        Ok(Frame { bytes, count, day })
+    }
+
+    // The sides of a line.
+    pub(super) fn sides(&self, line: usize) -> &'a [u8]
+        requires { line < self.now.count }
+        ensures value { result.now ≡ sides_at self.now.bytes.now line }
+        ensures length { length result.now ≡ 2 }
+    {
+        let from = 4 + 2 * line;
+        &self.bytes[from..from + 2]
+    }
+
+    // The terms of a line, behind the sides of all lines.
+    pub(super) fn terms(&self, line: usize) -> &'a [u8]
+        requires { line < self.now.count }
+        ensures value { result.now ≡ terms_at self.now.count self.now.bytes.now line }
+        ensures length { length result.now ≡ 14 }
+    {
+        let from = 4 + 2 * self.count as usize + 14 * line;
+        &self.bytes[from..from + 14]
+    }
+
+    // The first line whose code is none.
+    pub(super) fn first_bad_line(&self) -> Option<u32>
+        ensures { MatchOption result ((line : ℕ) → line < count_of self.now.bytes.now → IsCode (code_of self.now.bytes.now line)) (λ line. ((k : ℕ) → k < line → IsCode (code_of self.now.bytes.now k)) × (line < count_of self.now.bytes.now) × (IsCode (code_of self.now.bytes.now line) → ⊥)) }
+    {
+        (0..self.count as u32).find(|line| !self.has_code(*line))
+    }
+
+    // Whether a line has a code.
+    fn has_code(&self, line: u32) -> bool
+        requires { line < self.now.count }
+        ensures { Decides result (IsCode (code_of self.now.bytes.now line)) }
+    {
+        let terms = self.terms(line as usize);
+        ContractCode::from_bytes(&terms[0..6]).is_some()
+    }
+}
