@@ -83,7 +83,7 @@ fn adjusted<C: Calendar, S: RateSource>(
     ensures { Computed (C.kinds calendar.now) (S.rates source.now) close trades.now whose.account whose.month position result }
 {
     let corrected = corrected_price(calendar, source, close.latest, close.day)?;
-    let corrected = u32::try_from(corrected).ok().ok_or(Unsettled::OutOfRange)?;
+    let corrected = u32::try_from(corrected).map_err(|_| Unsettled::OutOfRange)?;
     let carried = carried_position(position, trades, whose).ok_or(Unsettled::OutOfRange)?;
     adjustment(trades, whose, close.price, carried, corrected).ok_or(Unsettled::OutOfRange)
 }
