@@ -3,13 +3,14 @@ ghost use Rattle.std.specs.Prelude.{◌≡◌, MatchResult};
 ghost use Rattle.std.specs.Option.{SomeIff};
 ghost use Rattle.settlement.specs.Amounts.{InRange};
 ghost use Rattle.model.specs.Balance.{AlwaysBalanced};
+ghost use Rattle.model.specs.declared.closing.Unsettled.TheVariants.{NotCorrected};
 ghost use Rattle.model.specs.Closing.{corrected_in, Correctable, Uncorrectable, carried_in, Computed, Answers};
 ghost use Rattle.model.specs.Value.{AlwaysValued};
 
 use calendar::kind::Calendar;
 use correction::{Uncorrected, correct};
 use rates::source::RateSource;
-use settlement::{MOST_CARRIED, Trade, adjustment, position_change};
+use settlement::{AccountMonth, MOST_CARRIED, Trade, adjustment, position_change};
 
 // The latest closed session as a month sees it: its day and the settlement price.
 #[derive(Clone, Copy, PartialEq, Eq, Debug)]
@@ -34,6 +35,15 @@ pub enum Unsettled {
     OutOfRange,
 }
 
+// A price that is not corrected settles nothing, for the same cause.
+impl From<Uncorrected> for Unsettled {
+    ghost from_gives = { λ cause e. e ≡ NotCorrected cause };
+
+    fn from(cause: Uncorrected) -> Unsettled {
+        Unsettled::NotCorrected(cause)
+    }
+}
+
 // The latest settlement price, corrected to the session; none is carried into the first.
 fn corrected_price<C: Calendar, S: RateSource>(
     calendar: &C,
@@ -50,10 +60,10 @@ fn corrected_price<C: Calendar, S: RateSource>(
 }
 
 // The position that the session began with, if it and the trades are in range.
-fn carried_position(position: i32, trades: &[Trade], account: u8, month: u8) -> Option<i32>
-    ensures { SomeIff result (InRange trades.now (carried_in account month trades.now position)) (carried_in account month trades.now position) }
+fn carried_position(position: i32, trades: &[Trade], whose: AccountMonth) -> Option<i32>
+    ensures { SomeIff result (InRange trades.now (carried_in whose.account whose.month trades.now position)) (carried_in whose.account whose.month trades.now position) }
 {
-    let change = position_change(trades, account, month)?;
+    let change = position_change(trades, whose)?;
     let carried = position as i64 - change;
     if carried.unsigned_abs() > MOST_CARRIED as u64 {
         return None;
@@ -67,26 +77,15 @@ fn adjusted<C: Calendar, S: RateSource>(
     source: &S,
     close: MonthClose,
     trades: &[Trade],
-    account: u8,
-    month: u8,
+    whose: AccountMonth,
     position: i32,
 ) -> Result<i64, Unsettled>
-    ensures { Computed (C.kinds calendar.now) (S.rates source.now) close trades.now account month position result }
+    ensures { Computed (C.kinds calendar.now) (S.rates source.now) close trades.now whose.account whose.month position result }
 {
-    let corrected = match corrected_price(calendar, source, close.latest, close.day) {
-        Ok(price) => price,
-        Err(cause) => return Err(Unsettled::NotCorrected(cause)),
-    };
-    let Ok(corrected) = u32::try_from(corrected) else {
-        return Err(Unsettled::OutOfRange);
-    };
-    let Some(carried) = carried_position(position, trades, account, month) else {
-        return Err(Unsettled::OutOfRange);
-    };
-    match adjustment(trades, account, month, close.price, carried, corrected) {
-        Some(amount) => Ok(amount),
-        None => Err(Unsettled::OutOfRange),
-    }
+    let corrected = corrected_price(calendar, source, close.latest, close.day)?;
+    let corrected = u32::try_from(corrected).map_err(|_| Unsettled::OutOfRange)?;
+    let carried = carried_position(position, trades, whose).ok_or(Unsettled::OutOfRange)?;
+    adjustment(trades, whose, close.price, carried, corrected).ok_or(Unsettled::OutOfRange)
 }
 
 // The adjustment of an account in a month at the close of a session: its trades of the session to
@@ -96,14 +95,13 @@ pub fn settle<C: Calendar, S: RateSource>(
     source: &S,
     close: MonthClose,
     trades: &[Trade],
-    account: u8,
-    month: u8,
+    whose: AccountMonth,
     position: i32,
 ) -> Result<i64, Unsettled>
-    ensures computed { Computed (C.kinds calendar.now) (S.rates source.now) close trades.now account month position result }
-    ensures settled { Answers (C.kinds calendar.now) (S.rates source.now) close trades.now account month position result }
+    ensures computed { Computed (C.kinds calendar.now) (S.rates source.now) close trades.now whose.account whose.month position result }
+    ensures settled { Answers (C.kinds calendar.now) (S.rates source.now) close trades.now whose.account whose.month position result }
     ensures balanced { AlwaysBalanced }
     ensures valued { AlwaysValued }
 {
-    adjusted(calendar, source, close, trades, account, month, position)
+    adjusted(calendar, source, close, trades, whose, position)
 }

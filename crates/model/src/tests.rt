@@ -3,7 +3,7 @@ use calendar::rule::{Exception, RuleCalendar};
 use correction::Uncorrected;
 use rates::flat::FlatSource;
 use rates::horizon::Horizon;
-use settlement::Trade;
+use settlement::{AccountMonth, Trade};
 use std::test::Fail;
 
 fn settled(day: u32, price: u32) -> Option<Settled> {
@@ -72,8 +72,9 @@ fn a_month_to_its_end(rt: HostRuntime) -> Result<(), Fail> {
     for (latest, day, price, trades, account, position, expected) in rows {
         let close = MonthClose { latest, day, price };
         let session = &dealt[0..trades];
+        let whose = AccountMonth { account, month: 0 };
         assert_eq!(rt;
-            settle(&calendar, &source, close, session, account, 0, position),
+            settle(&calendar, &source, close, session, whose, position),
             expected
         );
     }

@@ -44,7 +44,7 @@ module _ (s : Side) (account month : ℕ) where
   lots-few ts l =
       let few = l.few in
       let k = sum_by_le (lots_of s account month) 20000 ts
-          (All-weaker (λ t. t.quantity ≤ 20000) (λ t. lots_of s account month t ≤ 20000) (λ t h. let m = lots-most s account month t in omega arith) ts l.small) in
+      (All-weaker (λ t. t.quantity ≤ 20000) (λ t. lots_of s account month t ≤ 20000) (λ t h. let m = lots-most s account month t in omega arith) ts l.small) in
       omega arith
 
 module _ (s : Side) (account month : ℕ) (ts : List Trade) (i : ℕ) (d : Trade) where

@@ -34,7 +34,10 @@ impl SessionTrades<'_> {
         ensures value { result ≡ on_trades whose.account whose.month price self.now.trades.now }
         ensures most { unsigned_abs result ≤ 256 * 20000 * 4294967296 }
     {
-        self.trades.iter().map(|trade| on_trade(*trade, whose, price)).sum()
+        self.trades
+            .iter()
+            .map(|trade| on_trade(*trade, whose, price))
+            .sum()
     }
 }
 

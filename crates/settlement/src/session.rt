@@ -30,7 +30,10 @@ impl<'a> SessionTrades<'a> {
         ensures value { result ≡ length (units side whose.account whose.month self.now.trades.now) }
         ensures most { result ≤ 5120000 }
     {
-        self.trades.iter().map(|trade| trade.lots(side, whose)).sum()
+        self.trades
+            .iter()
+            .map(|trade| trade.lots(side, whose))
+            .sum()
     }
 
     // The contracts bought less those sold.

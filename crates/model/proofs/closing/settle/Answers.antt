@@ -4,7 +4,11 @@ use Rattle.model.proofs.Balancing.{always-balanced}
 use Rattle.model.proofs.Settling.{answers}
 use Rattle.model.proofs.Valuing.{always-valued}
 
-pub returns : goal.returns
-returns g c =
-    let bounded = g.met.S.RateSource.bounded c.args.source.now in
-    record { computed = search rules; settled = search (rules, answers); balanced = always-balanced; valued = always-valued }
+pub returns-clause-settled : goal.returns-clause-settled
+returns-clause-settled g c = let bounded = g.met.S.RateSource.bounded c.args.source.now in search (rules, answers)
+
+pub returns-clause-balanced : goal.returns-clause-balanced
+returns-clause-balanced g c = always-balanced
+
+pub returns-clause-valued : goal.returns-clause-valued
+returns-clause-valued g c = always-valued

@@ -1,5 +1,5 @@
-use Rattle.std.proofs.Common.{◌^◌, ◌<◌, sym, subst, arith, w64, SFits}
-use Rattle.settlement.proofs.Signs.{gain-size, gain-fits, gain-bits, gain-exact}
+use Rattle.std.proofs.Common.{◌^◌, ◌<◌, arith}
+use Rattle.settlement.proofs.Signs.{gain-size, gain-exact}
 use Rattle.settlement.proofs.amounts.gain.Goals as goal
 
 pub returns : goal.returns

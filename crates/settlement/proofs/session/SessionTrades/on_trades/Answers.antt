@@ -12,9 +12,11 @@ use Rattle.settlement.proofs.Totals.{total-map, fold-total, run-size}
 use Rattle.settlement.proofs.session.SessionTrades.on_trades.Goals as goal
 
 pub sum-requires-clause-can : goal.sum-requires-clause-can
-sum-requires-clause-can c =
-    (tt, serves_from_places (YieldsList-from_slice c.args.self.now.trades.now cc) (λ x q h. search (rules, tests))
-    (λ x k h e. let s = All-get_or (λ t. t.quantity ≤ 20000) c.args.self.now.trades.now k x.now h c.args.self.now.limited.small in search (rules, rw (sym e) at s)))
+sum-requires-clause-can c = (
+  tt,
+  serves_from_places (YieldsList-from_slice c.args.self.now.trades.now cc) (λ x q h. search (rules, tests))
+      (λ x k h e. let s = All-get_or (λ t. t.quantity ≤ 20000) c.args.self.now.trades.now k x.now h c.args.self.now.limited.small in search (rules, rw (sym e) at s)),
+)
 
 pub sum-requires-clause-fits : goal.sum-requires-clause-fits
 sum-requires-clause-fits c p seen e =
