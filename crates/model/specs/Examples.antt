@@ -4,6 +4,7 @@ use Rattle.std.specs.List.{range_with_len}
 use Rattle.calendar.specs.declared.rule.Exception.{Exception}
 use Rattle.calendar.specs.Kinds.{ruled}
 use Rattle.calendar.specs.Spans.{reserve_days}
+use Rattle.calendar.specs.declared.kind.DayKind.TheVariants.{Closed}
 use Rattle.settlement.specs.declared.trades.Trade.{Trade}
 use Rattle.model.specs.declared.accounts.Account.{Account}
 use Rattle.model.specs.History.{History, Amounts, Entered, Listed, Published, Opened, Traded, Marked, Closed, Paid, written, gather}
@@ -69,7 +70,7 @@ tolerance_of w h a m =
 
 -- 1 January 2027 is closed
 abbrev pub run_world : World
-run_world = book_over (record { day = 9862; kind = 0 } ∷ [])
+run_world = book_over (record { day = 9862; kind = Closed } ∷ [])
 
 -- January 2027, which expires on 4 January, day 9865; the newest first
 abbrev pub run_history : History

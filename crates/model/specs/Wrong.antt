@@ -1,6 +1,7 @@
 -- Books that balance and are wrong: the second claim fails of each.
 use Rattle.std.specs.Prelude.{◌<◌, List, [], ◌∷◌, ℤ, pos, neg_ℤ}
 use Rattle.std.specs.List.{AllByRecursion}
+use Rattle.calendar.specs.declared.kind.DayKind.TheVariants.{Reserve}
 use Rattle.model.specs.Balance.{Balanced}
 use Rattle.model.specs.Examples.{book_over, client, deal, both, distance_of, tolerance_of}
 use Rattle.model.specs.History.{History, Entered, Listed, Published, Opened, Traded, Marked, Closed, Paid}
@@ -10,7 +11,7 @@ use Rattle.model.specs.World.{World}
 
 -- 31 December 2026 is a reserve day without a session: two reserve days go by from the session of 30 December to that of 1 January 2027, day 9862
 abbrev pub wrong_world : World
-wrong_world = book_over (record { day = 9861; kind = 1 } ∷ [])
+wrong_world = book_over (record { day = 9861; kind = Reserve } ∷ [])
 
 -- February 2027, where the closes wrote x and then y for account 1. The rates of the three days are 10 %, 14 % and 21 %.
 -- The price 9,873,300 becomes 9,877,034.97 and, rounded, 9,877,035; that becomes 9,882,171.95 and, rounded, 9,882,172.

@@ -12,13 +12,7 @@ fn settled(day: u32, price: u32) -> Option<Settled> {
 
 #[test]
 fn a_month_to_its_end(rt: HostRuntime) -> Result<(), Fail> {
-    let calendar = RuleCalendar::new(
-        rt.alloc(),
-        &[Exception {
-            day: 9_862,
-            kind: 0,
-        }],
-    )?;
+    let calendar = RuleCalendar::new(rt.alloc(), &[Exception::of_mark(9_862, 0)])?;
     let source = FlatSource {
         horizon: Horizon {
             first: 9_860,

@@ -19,10 +19,7 @@ fn trade(month: u32, rate: u32) -> Trade {
 fn priced_at_the_edges(rt: HostRuntime) -> Result<(), Fail> {
     let calendar = RuleCalendar::new(
         rt.alloc(),
-        &[Exception {
-            day: 9_862,
-            kind: 0,
-        }],
+        &[Exception::of_mark(9_862, 0)],
     )?;
     let first = PricedTrade {
         buyer: 1,

@@ -1,7 +1,6 @@
 -- The meaning of an office's calendar.
-use Rattle.std.specs.Prelude.{◌≡◌, ℕ, ◌<◌}
+use Rattle.std.specs.Prelude.{ℕ}
 use Rattle.calendar.specs.declared.kind.DayKind.{DayKind}
-use Rattle.calendar.specs.declared.kind.DayKind.TheVariants.{Closed}
 use Rattle.calendar.specs.Marked.{marked_kinds}
 use Rattle.calendar.specs.Ruled.{rule_kinds}
 use Rattle.settle.specs.declared.office.OfficeCalendar.{OfficeCalendar}

@@ -1,6 +1,8 @@
 // A settlement price carried over the reserve days of a gap, day by day.
 use crate::failure::{Complaint, Failure, said};
-use crate::figures::{Counted, DI_PLACES, FACTOR_PLACES, Fixed, PRICE_PLACES, Points, day, fixed};
+use crate::figures::{
+    Counted, DI_PLACES, FACTOR_PLACES, Fixed, PRICE_PLACES, Points, day_of, decimal_of,
+};
 use crate::office::{Office, OfficeRates, read_office};
 use calendar::kind::Calendar;
 use calendar::span::count_reserve_days;
@@ -18,9 +20,9 @@ const MOST_PRICE: u32 = 10_000_000;
 
 // The gap that three words say.
 fn gap_of<'a>(from: &'a str, to: &'a str, price: &'a str) -> Result<Gap, Complaint<'a>> {
-    let from = day(from)?;
-    let to = day(to)?;
-    let price = fixed("no price", price, PRICE_PLACES)?;
+    let from = day_of(from)?;
+    let to = day_of(to)?;
+    let price = decimal_of("no price", price, PRICE_PLACES)?;
     if price == 0 || price > MOST_PRICE {
         return Err(Complaint::Words("price not from 0.01 to 100 000.00"));
     }
@@ -36,12 +38,7 @@ fn factor_on(rates: &OfficeRates, day: u32) -> Option<u32> {
 }
 
 // The row of a reserve day, with the price after it.
-fn row(
-    heap: Global,
-    rates: &OfficeRates,
-    day: u32,
-    hundredths: u64,
-) -> Result<String, AllocError> {
+fn row(heap: Global, rates: &OfficeRates, day: u32, hundredths: u64) -> Result<String, AllocError> {
     let rate = Fixed {
         value: rates.rate(day).unwrap_or(0),
         places: DI_PLACES,
@@ -90,7 +87,10 @@ struct LastAlone {
 
 impl fmt::Display for LastAlone {
     fn fmt<W: fmt::Write>(&self, f: &mut fmt::Formatter<W>) -> fmt::Result {
-        match self.last.and_then(|factor| correct_day(self.price as u64, factor)) {
+        match self
+            .last
+            .and_then(|factor| correct_day(self.price as u64, factor))
+        {
             Some(hundredths) => writeln!(f, "by the last rate alone: {}", Points { hundredths }),
             None => Ok(()),
         }
@@ -115,7 +115,9 @@ fn print<'a>(heap: Global, office: &Office, gap: Gap) -> Result<String, Complain
     let from = Day { number: from };
     let to = Day { number: to };
     let alone = LastAlone { price, last };
-    Ok(format!(in heap; "from {from} at {start}\n{HEADING}{rows}to {to}: {corrected} over {days}\n{alone}")?)
+    Ok(format!(in heap;
+        "from {from} at {start}\n{HEADING}{rows}to {to}: {corrected} over {days}\n{alone}"
+    )?)
 }
 
 // Carries a settlement price over a gap by the office's calendar and rates.

@@ -17,14 +17,23 @@ pub(crate) enum Complaint<'a> {
     CannotRead(&'a str),
     #[error("cannot write {0}")]
     CannotWrite(&'a str),
-    #[error("refused {}: {0}", .0.number())]
-    Refused(#[from] Refusal),
+    #[error("refused {number}: {refusal}")]
+    Refused { number: u32, refusal: Refusal },
     #[error("{0}")]
     Unpriceable(#[from] Unpriceable),
     #[error("{0}")]
     Uncorrected(#[from] Uncorrected),
     #[error("out of memory")]
     Memory(#[from(alloc)] AllocError),
+}
+
+impl From<Refusal> for Complaint<'_> {
+    fn from(refusal: Refusal) -> Self {
+        Complaint::Refused {
+            number: refusal.number(),
+            refusal,
+        }
+    }
 }
 
 #[derive(Debug, Drop, Error)]
@@ -41,7 +50,10 @@ pub(crate) enum Failure {
     },
     // about a file
     #[error("{file}: {words}")]
-    About { file: String, words: String },
+    About {
+        file: String,
+        words: String,
+    },
     #[error("out of memory")]
     Memory(#[from(alloc)] AllocError),
     #[error("cannot write standard output")]

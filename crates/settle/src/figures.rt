@@ -1,4 +1,6 @@
 // Rates, factors and prices as people write them.
+ghost use Rattle.std.specs.Prelude.{◌≤◌, IfOk};
+
 use crate::failure::Complaint;
 use dates::Date;
 use interest::{day_factor, trade_price};
@@ -87,7 +89,7 @@ fn parse_fixed(text: &str, places: u32) -> Option<u32> {
 }
 
 // What a word says as a number with decimals, or a complaint that names it.
-pub(crate) fn fixed<'a>(
+pub(crate) fn decimal_of<'a>(
     what: &'static str,
     word: &'a str,
     places: u32,
@@ -96,12 +98,14 @@ pub(crate) fn fixed<'a>(
 }
 
 // What a word says as a number.
-pub(crate) fn whole<'a>(what: &'static str, word: &'a str) -> Result<u32, Complaint<'a>> {
+pub(crate) fn number_of<'a>(what: &'static str, word: &'a str) -> Result<u32, Complaint<'a>> {
     number(word).ok_or(Complaint::NoSuch { what, word })
 }
 
 // The day of a date.
-pub(crate) fn day<'a>(word: &'a str) -> Result<u32, Complaint<'a>> {
+pub(crate) fn day_of<'a>(word: &'a str) -> Result<u32, Complaint<'a>>
+    ensures { IfOk result (λ day. day ≤ 36524) }
+{
     let what = "no date";
     let date = Date::parse(word).map_err(|_| Complaint::NoSuch { what, word })?;
     Ok(date.day_number())
@@ -112,8 +116,8 @@ pub(crate) fn price<'a>(
     rate: &'a str,
     days: &'a str,
 ) -> Result<String, Complaint<'a>> {
-    let dealt = fixed("no rate", rate, RATE_PLACES)?;
-    let count = whole("no number", days)?;
+    let dealt = decimal_of("no rate", rate, RATE_PLACES)?;
+    let count = number_of("no number", days)?;
     let price = Points {
         hundredths: trade_price(dealt, count)? as u64,
     };
@@ -121,7 +125,7 @@ pub(crate) fn price<'a>(
 }
 
 pub(crate) fn factor<'a>(heap: Global, rate: &'a str) -> Result<String, Complaint<'a>> {
-    let di = fixed("no rate", rate, DI_PLACES)?;
+    let di = decimal_of("no rate", rate, DI_PLACES)?;
     let factor = Fixed {
         value: day_factor(di).ok_or(Complaint::Words("rate over 99.999999 %"))?,
         places: FACTOR_PLACES,

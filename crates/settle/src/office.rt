@@ -4,7 +4,7 @@ ghost use Rattle.settle.specs.Office.{office_kinds};
 ghost use Rattle.std.proofs.Common.{rules};
 
 use crate::failure::{Complaint, Failure, at_line, said};
-use crate::figures::{DI_PLACES, day, fixed, whole};
+use crate::figures::{DI_PLACES, day_of, decimal_of, number_of};
 use crate::texts::{Line, lines_of, read_bytes, read_text};
 use calendar::kind::{Calendar, DayKind};
 use calendar::marked::MarkedCalendar;
@@ -80,12 +80,10 @@ fn kind_of_day<'a>(word: &'a str) -> Result<DayKind, Complaint<'a>> {
 // An exception line.
 fn exception<'a>(words: &[&'a str]) -> Result<Exception, Complaint<'a>> {
     let ["exception", date, kind] = words else {
-        return Err(Complaint::Words(
-            "expected: exception DATE closed, reserve or session",
-        ));
+        return Err(Complaint::Words("expected: exception DATE closed, reserve or session"));
     };
     Ok(Exception {
-        day: day(date)?,
+        day: day_of(date)?,
         kind: kind_of_day(kind)?,
     })
 }
@@ -95,8 +93,8 @@ fn rates_line<'a>(heap: Global, words: &[&'a str]) -> Result<OfficeRates, Compla
     let ["rates", "table", first, count] = words else {
         return Err(Complaint::Words("expected: rates table FIRST COUNT"));
     };
-    let first = day(first)?;
-    let count = whole("no number", count)?;
+    let first = day_of(first)?;
+    let count = number_of("no number", count)?;
     if count > MOST_RATES {
         return Err(Complaint::Words("over 36525 days"));
     }
@@ -109,8 +107,8 @@ fn day_rate<'a>(expected: &'static str, words: &[&'a str]) -> Result<DayRate, Co
         return Err(Complaint::Words(expected));
     };
     Ok(DayRate {
-        day: day(date)?,
-        rate: fixed("no rate", percent, DI_PLACES)?,
+        day: day_of(date)?,
+        rate: decimal_of("no rate", percent, DI_PLACES)?,
     })
 }
 
@@ -121,9 +119,7 @@ impl Draft {
             ["calendar", "rule"] => Days::Rule(Vec::new(rt.alloc())),
             ["calendar", "marked", path] => Days::Marked(read_bytes(rt, path)?),
             ["calendar", ..] => {
-                return Err(Complaint::Words(
-                    "expected: calendar rule, or calendar marked FILE",
-                ));
+                return Err(Complaint::Words("expected: calendar rule, or calendar marked FILE"));
             }
             _ => return Err(Complaint::Words("no calendar line")),
         };
@@ -185,7 +181,10 @@ impl Draft {
         let Draft { days, rates } = self;
         let calendar = match days {
             Days::Marked(marks) => OfficeCalendar::Marked(MarkedCalendar::new(marks)),
-            Days::Rule(exceptions) => OfficeCalendar::Rule(RuleCalendar::new(heap, exceptions.as_slice())?),
+            Days::Rule(exceptions) => OfficeCalendar::Rule(RuleCalendar::new(
+                heap,
+                exceptions.as_slice(),
+            )?),
         };
         let rates = match rates {
             Some(rates) => rates,
@@ -203,7 +202,12 @@ pub(crate) fn read_office(rt: &HostRuntime, file: &str) -> Result<Office, Failur
     let Some((first, rest)) = lines.as_slice().split_first() else {
         return at_line(heap, file, 1, Err(Complaint::Words("no calendar line")));
     };
-    let mut draft = at_line(heap, file, first.number, Draft::begin(rt, first.words.as_slice()))?;
+    let mut draft = at_line(
+        heap,
+        file,
+        first.number,
+        Draft::begin(rt, first.words.as_slice()),
+    )?;
     for Line { number, words } in rest {
         at_line(heap, file, *number, draft.take_line(heap, words.as_slice()))?;
     }

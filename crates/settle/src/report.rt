@@ -87,6 +87,15 @@ fn row(
     format!(in heap; "{sides}  {terms}  {price}\n")
 }
 
+// The lines of the sheet.
+fn rows(heap: Global, calendar: &OfficeCalendar, view: &SheetView) -> Result<String, AllocError> {
+    let mut text = String::new(heap);
+    for (line, trade) in (0..view.count()).zip(view.trades()) {
+        text.push_str(row(heap, calendar, view.day(), line, trade)?.as_str())?;
+    }
+    Ok(text)
+}
+
 fn lines(count: u32) -> Counted {
     Counted {
         count: count as u64,
@@ -113,7 +122,11 @@ struct Total {
 impl fmt::Display for Total {
     fn fmt<W: fmt::Write>(&self, f: &mut fmt::Formatter<W>) -> fmt::Result {
         let left = self.all.count.saturating_sub(self.priced);
-        writeln!(f, "total: {}, {} priced, {left} not priced", self.all, self.priced)
+        writeln!(
+            f,
+            "total: {}, {} priced, {left} not priced",
+            self.all, self.priced
+        )
     }
 }
 
@@ -163,9 +176,7 @@ fn priced(
         });
     }
     let mut text = format!(in heap; "session {day}\n{HEADING}")?;
-    for (line, trade) in view.trades().enumerate() {
-        text.push_str(row(heap, calendar, session, line, trade)?.as_str())?;
-    }
+    text.push_str(rows(heap, calendar, view)?.as_str())?;
     let all = add_up(view, &AnyTrade);
     let priced = add_up(view, &OnCalendar { calendar, session });
     text.push_str(totals(heap, all, priced)?.as_str())?;

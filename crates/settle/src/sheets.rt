@@ -1,6 +1,6 @@
 // Sheets as text and back.
 use crate::failure::{Complaint, Failure, at_line, said};
-use crate::figures::{Counted, Fixed, RATE_PLACES, day, fixed, number, whole};
+use crate::figures::{Counted, Fixed, RATE_PLACES, day_of, decimal_of, number, number_of};
 use crate::texts::{Line, lines_of, read_bytes, read_text};
 use dates::Day;
 use sheet::{ContractCode, SheetFault, SheetView, Trade, read, write};
@@ -36,7 +36,10 @@ impl fmt::Display for FaultWords<'_> {
             }
             SheetFault::Length => {
                 let asked = 4 + 16 * count as usize;
-                write!(f, "line {line}: length {length}, and the count asks for {asked}")
+                write!(
+                    f,
+                    "line {line}: length {length}, and the count asks for {asked}"
+                )
             }
             SheetFault::Count => write!(f, "line {line}: count {count}, over 256"),
             SheetFault::Day => write!(f, "line {line}: another day"),
@@ -116,9 +119,11 @@ pub(crate) fn show(rt: &HostRuntime, file: &str) -> Result<String, Failure> {
 fn session_day<'a>(words: &[&'a str]) -> Result<u16, Complaint<'a>> {
     let expected = Complaint::Words("expected: session DATE, or session day N");
     match words {
-        ["session", "day", day] => number(day).and_then(|n| u16::try_from(n).ok()).ok_or(expected),
+        ["session", "day", day] => number(day)
+            .and_then(|n| u16::try_from(n).ok())
+            .ok_or(expected),
         ["session", "day"] => Err(expected),
-        ["session", date] => Ok(day(date)? as u16),
+        ["session", date] => Ok(day_of(date)? as u16),
         ["session", ..] => Err(expected),
         _ => Err(Complaint::Words("no session line")),
     }
@@ -126,16 +131,14 @@ fn session_day<'a>(words: &[&'a str]) -> Result<u16, Complaint<'a>> {
 
 fn account<'a>(word: &'a str) -> Result<u8, Complaint<'a>> {
     let what = "no account";
-    let number = whole(what, word)?;
+    let number = number_of(what, word)?;
     u8::try_from(number).map_err(|_| Complaint::NoSuch { what, word })
 }
 
 // A trade line.
 fn trade<'a>(words: &[&'a str]) -> Result<Trade, Complaint<'a>> {
     let ["trade", buyer, seller, code, rate, quantity] = words else {
-        return Err(Complaint::Words(
-            "expected: trade BUYER SELLER CODE RATE QUANTITY",
-        ));
+        return Err(Complaint::Words("expected: trade BUYER SELLER CODE RATE QUANTITY"));
     };
     let buyer = account(buyer)?;
     let seller = account(seller)?;
@@ -147,8 +150,8 @@ fn trade<'a>(words: &[&'a str]) -> Result<Trade, Complaint<'a>> {
         buyer,
         seller,
         month: contract.month(),
-        rate: fixed("no rate", rate, RATE_PLACES)?,
-        quantity: whole("no quantity", quantity)?,
+        rate: decimal_of("no rate", rate, RATE_PLACES)?,
+        quantity: number_of("no quantity", quantity)?,
     })
 }
 
@@ -193,9 +196,19 @@ fn sheet_of(heap: Global, file: &str, text: &str) -> Result<(usize, Vec<u8>), Fa
     let Some((first, rest)) = lines.as_slice().split_first() else {
         return at_line(heap, file, 1, Err(Complaint::Words("no session line")));
     };
-    let day = at_line(heap, file, first.number, session_day(first.words.as_slice()))?;
+    let day = at_line(
+        heap,
+        file,
+        first.number,
+        session_day(first.words.as_slice()),
+    )?;
     let trades = trades(heap, file, rest)?;
-    let bytes = at_line(heap, file, first.number, sheet_bytes(heap, day, trades.as_slice()))?;
+    let bytes = at_line(
+        heap,
+        file,
+        first.number,
+        sheet_bytes(heap, day, trades.as_slice()),
+    )?;
     Ok((trades.len(), bytes))
 }
 
