@@ -1,6 +1,6 @@
 -- Laws of the days of a range.
 use Rattle.std.proofs.Common.{◌≡◌, ℕ, zero, suc, ◌+◌, ◌-◌, ◌<◌, ◌≤◌, min, Bool, true, false, cond, List, [], ◌∷◌, ◌++◌, length, IfSome, Some, None, filter, Option, option_map, sym, refl, ap, ◌∙◌, add-zero, arith}
-use Rattle.std.proofs.lemmas.List.{append-nil}
+use Rattle.std.proofs.lemmas.List.{append-nil, length-append}
 use Rattle.std.specs.List.{range_with_len, find}
 use Rattle.calendar.specs.declared.kind.DayKind.{DayKind}
 use Rattle.calendar.specs.declared.kind.DayKind.TheVariants.{Closed}
@@ -86,6 +86,16 @@ days-end t k end from to h = by (to - end) (end - from) refl refl
         ∙ append-nil (days_by t k from end)
         ∙ ap (days_by t k from) (sym g)
 
+-- the number of days with one day more
+pub count-more : (t : DayKind → Bool) (k : ℕ → DayKind) (from day : ℕ) → from ≤ day
+    → length (days_by t k from (day + 1)) ≡ length (days_by t k from day) + cond (t (k day)) 1 0
+count-more t k from day h =
+    ap length (days-more t k from day h) ∙ length-append (days_by t k from day) _ ∙ ap (λ n. length (days_by t k from day) + n) (one (t (k day)))
+  where
+    one : (b : Bool) → length (cond b (day ∷ []) []) ≡ cond b 1 0
+    one true = refl
+    one false = refl
+
 session-none : (k : ℕ → DayKind) (from to : ℕ) → to ≤ from → first_session k from to ≡ None
 session-none k from to h = ap first_in (days-none is_session k from to h)
 
@@ -94,9 +104,9 @@ pub past-last : (k : ℕ → DayKind) → ((d : ℕ) → 36524 < d → k d ≡ C
 past-last k ends t e d h = ap t (ends d (omega arith)) ∙ e
 
 -- a count that stops at the end of the calendar
-pub count_ends : (k : ℕ → DayKind) → ((d : ℕ) → 36524 < d → k d ≡ Closed) → (from end to count : ℕ) → count ≡ length (reserve_days k from end)
+pub count-ends : (k : ℕ → DayKind) → ((d : ℕ) → 36524 < d → k d ≡ Closed) → (from end to count : ℕ) → count ≡ length (reserve_days k from end)
     → end ≡ min to 36525 → count ≡ length (reserve_days k from to)
-count_ends k ends from end to count is e =
+count-ends k ends from end to count is e =
     is ∙ sym (ap length (days-end is_reserve k 36525 from to (past-last k ends is_reserve refl) ∙ ap (days_by is_reserve k from) (sym e)))
 
 -- a search that stops at the end of the calendar

@@ -162,6 +162,11 @@ pub month-is : (d m : ℕ) → first_day m ≤ d → d < first_day (m + 1) → m
 month-is d m from to h =
     month-by d m (omega (arith, days-end, first-day-grows (m + 1) 1200 (omega arith))) (from, to)
 
+-- the month that holds a day is the one that is asked for
+pub month-found : (d m : ℕ) → d ≤ 36524 → Holds m d
+    → (month_of d ≡ m) × (m ≤ 1199) × (d < first_day m + month_length m)
+month-found d m h o = (month-by d m h o, omega (arith, month-by d m h o, month-holds d h), omega (arith, first-day-suc m))
+
 -- a later day has no earlier month
 pub month-grows : (d e : ℕ) → d ≤ e → month_of d ≤ month_of e
 unfolding month_of begun

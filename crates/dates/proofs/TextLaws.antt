@@ -1,8 +1,8 @@
 -- Dates as ten bytes of text. Assumes nothing.
-use Rattle.std.proofs.Common.{◌≡◌, ℕ, zero, suc, ◌+◌, ◌-◌, ◌*◌, ◌/◌, ◌%◌, ◌^◌, ◌<◌, ◌≤◌, inl, inr, ◌++◌, List, [], ◌∷◌, length, get_or, drop, ap, ◌∙◌, arith, drop-cons}
-use lib.Seq.{drop-length}
+use Rattle.std.proofs.Common.{◌≡◌, ℕ, ◌+◌, ◌-◌, ◌*◌, ◌/◌, ◌%◌, ◌^◌, ◌<◌, ◌≤◌, inl, inr, ◌++◌, List, length, get_or, refl, arith}
 use Rattle.std.specs.Fmt.{styled_decimal, format_spec, padded_integral, char_count}
 use Rattle.std.proofs.lemmas.Bool.{cases_lt}
+use Rattle.std.proofs.lemmas.List.FromFn.{fill_by_all}
 use Rattle.std.proofs.lemmas.Fmt.{decimal_digit, decimal_step}
 use Rattle.dates.specs.Dates.{month_number, two_digits, date_text, Digits, Formed, Undated}
 use Rattle.dates.proofs.MonthLaws.{length_bound}
@@ -13,16 +13,6 @@ undated bs no-form y m d r e =
     let l = length_bound (month_number y m) in
     no-form (y, m, d, (omega arith, omega arith, omega arith, e))
 
--- the n bytes of bs from place i on
-abbrev bytes : List ℕ → ℕ → ℕ → List ℕ
-bytes bs i zero = []
-bytes bs i (suc n) = get_or bs i 0 ∷ bytes bs (suc i) n
-
-all-bytes : (bs : List ℕ) (i n : ℕ) → length bs ≡ i + n → drop i bs ≡ bytes bs i n
-all-bytes bs i zero e = let h : i ≡ length bs = omega arith in rw h (drop-length bs)
-all-bytes bs i (suc n) e =
-    drop-cons bs i 0 (omega arith) ∙ ap (λ (l : List ℕ). get_or bs i 0 ∷ l) (all-bytes bs (suc i) n (omega arith))
-
 -- bs has the two digits of n from place i on
 abbrev Pair : List ℕ → ℕ → ℕ → Type 0
 Pair bs i n = Digits (get_or bs i 0) (get_or bs (i + 1) 0) n
@@ -32,7 +22,7 @@ pub text-is : (bs : List ℕ) (p q m d : ℕ) → length bs ≡ 10 → Pair bs 0
 text-is bs p q m d l a b x e y f =
     let c : (100 * p + q) / 100 ≡ p = omega arith in
     let o : (100 * p + q) % 100 ≡ q = omega arith in
-    let t : bs ≡ bytes bs 0 10 = all-bytes bs 0 10 l in
+    let t = fill_by_all (λ i. get_or bs i 0) bs 10 0 l (λ i h. refl) in
     rw (c, o) (cc)
 
 -- what `{:02}` writes
