@@ -54,6 +54,9 @@ pub one_left : (ts : List Trade) (i : ℕ) (t : Trade) → Some t ≡ slice_get 
 one_left ts i t e =
     drop_more ts i t (slice_get_within ts i t (sym e)) ∙ ap (λ (x : Trade). x ∷ drop (i + 1) ts) (get_or_from_slice_get ts i t t (sym e))
 
+pub fewer_left : (ts : List Trade) (i : ℕ) (t : Trade) → Some t ≡ slice_get ts i → length (drop (i + 1) ts) < length (drop i ts)
+fewer_left ts i t e = let l = ap length (one_left ts i t e) in omega arith
+
 -- a view has as many trades as its head counts, and no more than a sheet
 pub few-trades : (v : SheetView) → length (view_trades v) ≤ most_trades
 few-trades v = omega (arith, length-lines (view_count v) (view_bytes v), v.frame.counted, v.frame.framed.1)

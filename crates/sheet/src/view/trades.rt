@@ -33,6 +33,7 @@ impl Iterator for Trades<'_> {
 
     ghost remaining = { item_count trades_left };
 
+    #[tactic(auto, using(crate::proofs::ReadLaws::none_left, crate::proofs::ReadLaws::one_left, crate::proofs::ReadLaws::fewer_left))]
     fn next(&mut self) -> Option<Trade> {
         let trade = self.view.trade(self.line)?;
         self.line += 1;
