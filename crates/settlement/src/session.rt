@@ -1,5 +1,5 @@
 // The trades of a session, few and small enough to be added up.
-ghost use Rattle.std.specs.Prelude.{◌≡◌, ◌≤◌, length, IfSome, Decides, MatchOption, unsigned_abs};
+ghost use Rattle.std.specs.Prelude.{◌≡◌, ◌≤◌, length, IfSome, MatchOption, unsigned_abs};
 ghost use Rattle.std.specs.Option.{SomeIff};
 ghost use Rattle.std.proofs.Props.{props};
 ghost use Rattle.settlement.specs.Trades.{position_change, Limited};
