@@ -1,7 +1,7 @@
 // Prices corrected over gaps of five days, added up.
 use crate::numbers::Numbers;
 use calendar::rule::RuleCalendar;
-use correction::correct;
+use correction::{Gap, correct};
 use rates::table::TableSource;
 use std::alloc::{AllocError, Global};
 
@@ -28,7 +28,12 @@ pub(crate) fn corrections(heap: Global, count: u32) -> Result<u64, AllocError> {
     for _ in 0..count {
         let from = FIRST + numbers.below(DAYS - 5);
         let price = 1 + numbers.below(10_000_000);
-        if let Ok(corrected) = correct(&calendar, &source, from, from + 5, price) {
+        let gap = Gap {
+            from,
+            to: from + 5,
+            price,
+        };
+        if let Ok(corrected) = correct(&calendar, &source, gap) {
             sum = sum.wrapping_add(corrected);
         }
     }

@@ -7,7 +7,7 @@ ghost use Rattle.model.specs.Closing.{corrected_in, Correctable, Uncorrectable, 
 ghost use Rattle.model.specs.Value.{AlwaysValued};
 
 use calendar::kind::Calendar;
-use correction::{Uncorrected, correct};
+use correction::{Gap, Uncorrected, correct};
 use rates::source::RateSource;
 use settlement::{MOST_CARRIED, Trade, adjustment, position_change};
 
@@ -45,7 +45,14 @@ fn corrected_price<C: Calendar, S: RateSource>(
 {
     match latest {
         None => Ok(0),
-        Some(settled) => correct(calendar, source, settled.day, day, settled.price),
+        Some(settled) => {
+            let gap = Gap {
+                from: settled.day,
+                to: day,
+                price: settled.price,
+            };
+            correct(calendar, source, gap)
+        }
     }
 }
 

@@ -5,7 +5,7 @@ use crate::office::{OfficeCalendar, OfficeRates, read_office};
 use crate::sheets::day_words;
 use calendar::kind::Calendar;
 use calendar::span::count_reserve_days;
-use correction::{Uncorrected, correct};
+use correction::{Gap, Uncorrected, correct};
 use dates::Date;
 use interest::{correct_day, day_factor};
 use rates::source::RateSource;
@@ -15,14 +15,6 @@ const HEADING: &str = "reserve day     rate %  source          factor       pric
 
 // The greatest settlement price.
 const MOST_PRICE: u32 = 10_000_000;
-
-// A gap and the price that is carried over it.
-#[derive(Clone, Copy)]
-struct Gap {
-    from: u32,
-    to: u32,
-    price: u32,
-}
 
 fn day_of(heap: Global, word: &str) -> Result<u32, Failure> {
     match Date::parse(word) {
@@ -62,7 +54,7 @@ fn corrected<C: Calendar>(
     rates: &OfficeRates,
     gap: Gap,
 ) -> Result<u64, Failure> {
-    match correct(calendar, rates, gap.from, gap.to, gap.price) {
+    match correct(calendar, rates, gap) {
         Ok(price) => Ok(price),
         Err(Uncorrected::TooLong) => Err(Failure::said(heap, "over 252 reserve days")?),
         Err(Uncorrected::MissingRate(day)) => {
