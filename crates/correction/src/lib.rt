@@ -90,11 +90,7 @@ fn day_on<C: Calendar, S: RateSource>(
 }
 
 // The price after the reserve days of a short gap, one by one.
-fn carry<C: Calendar, S: RateSource>(
-    calendar: &C,
-    source: &S,
-    gap: Gap,
-) -> Result<u64, Uncorrected>
+fn carry<C: Calendar, S: RateSource>(calendar: &C, source: &S, gap: Gap) -> Result<u64, Uncorrected>
     requires { Short (C.kinds calendar.now) gap.from gap.to }
     ensures { Answer (C.kinds calendar.now) (S.rates source.now) gap.from gap.to gap.price result }
 {

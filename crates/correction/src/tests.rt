@@ -6,10 +6,7 @@ use std::test::Fail;
 
 #[test]
 fn over_the_new_year(rt: HostRuntime) -> Result<(), Fail> {
-    let calendar = RuleCalendar::new(
-        rt.alloc(),
-        &[Exception::of_mark(9_862, 0)],
-    )?;
+    let calendar = RuleCalendar::new(rt.alloc(), &[Exception::of_mark(9_862, 0)])?;
     let two_days = Horizon {
         first: 9_860,
         count: 2,
@@ -39,7 +36,10 @@ fn over_the_new_year(rt: HostRuntime) -> Result<(), Fail> {
         (0, u32::MAX, 1, Err(Uncorrected::TooLong)),
     ];
     for (from, to, price, expected) in rows {
-        assert_eq!(rt; correct(&calendar, &source, Gap { from, to, price }), expected);
+        assert_eq!(rt;
+            correct(&calendar, &source, Gap { from, to, price }),
+            expected
+        );
     }
     Ok(())
 }
