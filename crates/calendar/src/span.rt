@@ -20,9 +20,7 @@ fn count_days<C: Calendar>(calendar: &C, from: u32, end: u32) -> u32
     // Kept: filter(..).count() took 1.5 times as long over the five days of a correction.
     let mut count = 0;
     for day in from..end {
-        if calendar.kind(day).is_reserve() {
-            count += 1;
-        }
+        count += u32::from(calendar.kind(day).is_reserve());
     }
     count
 }
