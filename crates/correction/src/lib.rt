@@ -38,6 +38,7 @@ pub enum Uncorrected {
 
 impl Uncorrected {
     // The refusal of a day without a rate; a gap that is too long has none.
+    // Kept: a TryFrom would need an error type that says no more than None.
     pub fn refusal(self) -> Option<Refusal>
         ensures { result ≡ refusal_of self }
     {
@@ -73,6 +74,7 @@ fn by_rate<S: RateSource>(source: &S, day: u32, price: u64) -> Result<u64, Uncor
     Ok(correct_day(price, factor).unwrap())
 }
 
+// Kept: calendar and source are two parameters, as who holds both lends each by itself; a pair of references would be made at each call.
 // A price that was carried to a day, carried over that day too: by its rate if it is a reserve day.
 fn day_on<C: Calendar, S: RateSource>(
     calendar: &C,

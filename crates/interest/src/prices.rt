@@ -35,6 +35,7 @@ impl fmt::Display for Unpriceable {
 impl std::error::Error for Unpriceable {}
 
 // A factor of nine decimals, rounded to eight.
+// Kept: one rounding over a const parameter would need this and to_centavos again, for their bounds.
 fn to_eight_decimals(factor: u64) -> u32
     requires { factor ≤ 2000000000 }
     ensures { result ≡ (factor + 5) / 10 }

@@ -38,9 +38,7 @@ fn run(rt: &HostRuntime) -> anyhow::Result<()> {
     let (Some(command), Some(count), None) = (words.next(), words.next(), words.next()) else {
         return Err(anyhow!(HELP));
     };
-    let Ok(count) = count.as_str().parse::<u32>() else {
-        return Err(anyhow!(HELP));
-    };
+    let count = count.as_str().parse::<u32>().map_err(|_| anyhow!(HELP))?;
     let printed = answer(rt.alloc(), command.as_str(), count)?;
     println!(rt; "{printed}")?;
     Ok(())

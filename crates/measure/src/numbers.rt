@@ -21,12 +21,21 @@ impl Numbers {
         self.state
     }
 
+    // A number below the bound, from the next one without its last bits.
+    fn next<const DROPPED: u32>(&mut self, bound: u32) -> u32
+        requires bound { 0 < bound }
+        requires dropped { DROPPED < 32 }
+        ensures { result < bound }
+    {
+        (self.step() >> DROPPED) % bound
+    }
+
     // A number below the bound.
     pub(crate) fn below(&mut self, bound: u32) -> u32
         requires { 0 < bound }
         ensures { result < bound }
     {
-        (self.step() >> 8) % bound
+        self.next::<8>(bound)
     }
 
     // The sum of so many numbers, each made from the next ones of the generator.
@@ -42,7 +51,7 @@ impl Numbers {
 
     // A DI rate, in millionths of a percent.
     pub(crate) fn di_rate(&mut self) -> u32 {
-        (self.step() >> 2) % 100_000_000
+        self.next::<2>(100_000_000)
     }
 
     // A trade among 32 accounts, in the 60 months from January 2027 on.

@@ -17,10 +17,7 @@ fn trade(month: u32, rate: u32) -> Trade {
 
 #[test]
 fn priced_at_the_edges(rt: HostRuntime) -> Result<(), Fail> {
-    let calendar = RuleCalendar::new(
-        rt.alloc(),
-        &[Exception::of_mark(9_862, 0)],
-    )?;
+    let calendar = RuleCalendar::new(rt.alloc(), &[Exception::of_mark(9_862, 0)])?;
     let first = PricedTrade {
         buyer: 1,
         seller: 0,

@@ -6,6 +6,7 @@ use crate::horizon::Horizon;
 use crate::source::{HIGHEST_RATE, RateSource};
 
 // A rate above the highest makes every day none.
+// Kept: any 32 bits are taken as a rate by the rules, so there is no Option in its place.
 #[derive(Clone, Copy, PartialEq, Eq, Debug)]
 pub struct FlatSource {
     pub horizon: Horizon,

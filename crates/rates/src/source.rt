@@ -29,6 +29,7 @@ pub trait RateSource {
 }
 
 // A source that takes the rate of a day that has none.
+// Kept: day, rate and period are three parameters; a struct of them would be taken apart again by each row of the refusals.
 pub trait Publishing: RateSource {
     fn publish(&mut self, day: u32, rate: u32, period: u32) -> Result<(), Refusal>
         ensures { Published Self.RateSource.horizons Self.RateSource.rates self.old self.new day rate period result };

@@ -39,6 +39,7 @@ pub enum Refusal {
 
 impl Refusal {
     // The number of the cause.
+    // Kept: `u32::from(refusal)` would not say that it is the number of the row.
     pub fn number(self) -> u32
         ensures { result ≡ refusal_number self }
     {

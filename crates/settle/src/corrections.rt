@@ -1,12 +1,12 @@
 // A settlement price carried over the reserve days of a gap, day by day.
-use crate::failure::{Complaint, Failure, said};
+use crate::failure::{Complaint, Failure, said, told};
 use crate::figures::{
-    Counted, DI_PLACES, FACTOR_PLACES, Fixed, PRICE_PLACES, Points, day_of, decimal_of,
+    Counted, DI_PLACES, FACTOR_PLACES, Fixed, PRICE_PLACES, Points, day_of, decimal,
 };
-use crate::office::{Office, OfficeRates, read_office};
+use crate::office::{Office, read_office};
 use calendar::kind::Calendar;
 use calendar::span::count_reserve_days;
-use correction::{Gap, correct};
+use correction::{Gap, Uncorrected, correct};
 use dates::Day;
 use interest::{correct_day, day_factor};
 use rates::source::RateSource;
@@ -22,7 +22,7 @@ const MOST_PRICE: u32 = 10_000_000;
 fn gap_of<'a>(from: &'a str, to: &'a str, price: &'a str) -> Result<Gap, Complaint<'a>> {
     let from = day_of(from)?;
     let to = day_of(to)?;
-    let price = decimal_of("no price", price, PRICE_PLACES)?;
+    let price = told("no price", price, decimal(price, PRICE_PLACES))?;
     if price == 0 || price > MOST_PRICE {
         return Err(Complaint::Words("price not from 0.01 to 100 000.00"));
     }
@@ -30,52 +30,6 @@ fn gap_of<'a>(from: &'a str, to: &'a str, price: &'a str) -> Result<Gap, Complai
         return Err(Complaint::Words("TO is before FROM"));
     }
     Ok(Gap { from, to, price })
-}
-
-// The factor of a day that has a rate.
-fn factor_on(rates: &OfficeRates, day: u32) -> Option<u32> {
-    day_factor(rates.rate(day)?)
-}
-
-// The row of a reserve day, with the price after it.
-fn row(heap: Global, rates: &OfficeRates, day: u32, hundredths: u64) -> Result<String, AllocError> {
-    let rate = Fixed {
-        value: rates.rate(day).unwrap_or(0),
-        places: DI_PLACES,
-    };
-    let source = if rates.is_arbitrated(day) {
-        "arbitrated"
-    } else {
-        "published"
-    };
-    let factor = Fixed {
-        value: factor_on(rates, day).unwrap_or(0),
-        places: FACTOR_PLACES,
-    };
-    let date = format!(in heap; "{}", Day { number: day })?;
-    let rate = format!(in heap; "{rate}")?;
-    let factor = format!(in heap; "{factor}")?;
-    let price = format!(in heap; "{}", Points { hundredths })?;
-    format!(in heap; "{date:<11}  {rate:>9}  {source:<10}  {factor:>10}  {price:>10}\n")
-}
-
-// The rows of a gap that can be corrected, and the factor of its last reserve day.
-fn rows<'a>(
-    heap: Global,
-    office: &Office,
-    gap: Gap,
-) -> Result<(String, Option<u32>), Complaint<'a>> {
-    let mut text = String::new(heap);
-    let mut last = None;
-    for day in gap.from..gap.to {
-        if office.calendar.kind(day).is_reserve() {
-            let so_far = Gap { to: day + 1, ..gap };
-            let price = correct(&office.calendar, &office.rates, so_far)?;
-            text.push_str(row(heap, &office.rates, day, price)?.as_str())?;
-            last = factor_on(&office.rates, day);
-        }
-    }
-    Ok((text, last))
 }
 
 // Where the last rate alone would have led; nothing where no day has one.
@@ -97,27 +51,83 @@ impl fmt::Display for LastAlone {
     }
 }
 
-// The whole print of a correction.
-fn print<'a>(heap: Global, office: &Office, gap: Gap) -> Result<String, Complaint<'a>> {
-    let Gap { from, to, price } = gap;
-    let start = Points {
-        hundredths: price as u64,
-    };
-    let corrected = Points {
-        hundredths: correct(&office.calendar, &office.rates, gap)?,
-    };
-    let (rows, last) = rows(heap, office, gap)?;
-    let days = Counted {
-        count: count_reserve_days(&office.calendar, from, to) as u64,
-        one: "reserve day",
-        many: "reserve days",
-    };
-    let from = Day { number: from };
-    let to = Day { number: to };
-    let alone = LastAlone { price, last };
-    Ok(format!(in heap;
-        "from {from} at {start}\n{HEADING}{rows}to {to}: {corrected} over {days}\n{alone}"
-    )?)
+// A gap, and the office by whose calendar and rates its price is carried.
+#[derive(Clone, Copy)]
+struct Correction<'a> {
+    office: &'a Office,
+    gap: Gap,
+}
+
+impl Correction<'_> {
+    // The price carried to a day.
+    fn carried_to(&self, to: u32) -> Result<Points, Uncorrected> {
+        let Gap { from, price, .. } = self.gap;
+        let gap = Gap { from, to, price };
+        let hundredths = correct(&self.office.calendar, &self.office.rates, gap)?;
+        Ok(Points { hundredths })
+    }
+
+    // The factor of a day that has a rate.
+    fn factor_on(&self, day: u32) -> Option<u32> {
+        day_factor(self.office.rates.rate(day)?)
+    }
+
+    // The row of a reserve day, with the price after it.
+    fn row(&self, heap: Global, day: u32, price: Points) -> Result<String, AllocError> {
+        let rates = &self.office.rates;
+        let rate = Fixed {
+            value: rates.rate(day).unwrap_or(0),
+            places: DI_PLACES,
+        };
+        let source = if rates.is_arbitrated(day) {
+            "arbitrated"
+        } else {
+            "published"
+        };
+        let factor = Fixed {
+            value: self.factor_on(day).unwrap_or(0),
+            places: FACTOR_PLACES,
+        };
+        let date = format!(in heap; "{}", Day { number: day })?;
+        let rate = format!(in heap; "{rate}")?;
+        let factor = format!(in heap; "{factor}")?;
+        let price = format!(in heap; "{price}")?;
+        format!(in heap; "{date:<11}  {rate:>9}  {source:<10}  {factor:>10}  {price:>10}\n")
+    }
+
+    // The rows of the reserve days, and the factor of the last of them.
+    fn rows(&self, heap: Global) -> Result<(String, Option<u32>), Complaint<'static>> {
+        let mut text = String::new(heap);
+        let mut last = None;
+        for day in self.gap.from..self.gap.to {
+            if self.office.calendar.kind(day).is_reserve() {
+                let price = self.carried_to(day + 1)?;
+                text.push_str(self.row(heap, day, price)?.as_str())?;
+                last = self.factor_on(day);
+            }
+        }
+        Ok((text, last))
+    }
+
+    // The whole print.
+    fn print(&self, heap: Global) -> Result<String, Complaint<'static>> {
+        let Gap { from, to, price } = self.gap;
+        let start = Points {
+            hundredths: price as u64,
+        };
+        let corrected = self.carried_to(to)?;
+        let (rows, last) = self.rows(heap)?;
+        let days = Counted {
+            count: count_reserve_days(&self.office.calendar, from, to) as u64,
+            one: "reserve day",
+            many: "reserve days",
+        };
+        let from = Day { number: from };
+        let to = Day { number: to };
+        let alone = LastAlone { price, last };
+        let head = format!(in heap; "from {from} at {start}\n{HEADING}{rows}")?;
+        Ok(format!(in heap; "{head}to {to}: {corrected} over {days}\n{alone}")?)
+    }
 }
 
 // Carries a settlement price over a gap by the office's calendar and rates.
@@ -131,5 +141,9 @@ pub(crate) fn correct_gap(
     let heap = rt.alloc();
     let office = read_office(rt, office)?;
     let gap = said(heap, gap_of(from, to, price))?;
-    said(heap, print(heap, &office, gap))
+    let correction = Correction {
+        office: &office,
+        gap,
+    };
+    said(heap, correction.print(heap))
 }

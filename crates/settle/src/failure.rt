@@ -60,29 +60,49 @@ pub(crate) enum Failure {
     Output(#[from] io::Error),
 }
 
-// A complaint about the words of a command.
-pub(crate) fn said<T>(heap: Global, answer: Result<T, Complaint<'_>>) -> Result<T, Failure> {
-    match answer {
-        Ok(value) => Ok(value),
-        Err(Complaint::Memory(e)) => Err(Failure::Memory(e)),
-        Err(complaint) => Err(Failure::Said(format!(in heap; "{complaint}")?)),
+// The failure that a complaint is, or that of memory.
+impl Complaint<'_> {
+    // About the words of a command.
+    fn of_command(self, heap: Global) -> Result<Failure, Failure> {
+        Ok(match self {
+            Complaint::Memory(e) => Failure::Memory(e),
+            complaint => Failure::Said(format!(in heap; "{complaint}")?),
+        })
+    }
+
+    // About a line of a file.
+    fn of_line(self, heap: Global, file: &str, line: usize) -> Result<Failure, Failure> {
+        Ok(match self {
+            Complaint::Memory(e) => Failure::Memory(e),
+            complaint => Failure::AtLine {
+                file: String::from_str(heap, file)?,
+                line,
+                words: format!(in heap; "{complaint}")?,
+            },
+        })
     }
 }
 
-// A complaint about a line of a file.
-pub(crate) fn at_line<T>(
+// What the words of a command gave.
+pub(crate) fn said<T: Drop>(heap: Global, answer: Result<T, Complaint<'_>>) -> Result<T, Failure> {
+    answer.try_map_err(|complaint| complaint.of_command(heap))
+}
+
+// What a line of a file gave.
+pub(crate) fn at_line<T: Drop>(
     heap: Global,
     file: &str,
     line: usize,
     answer: Result<T, Complaint<'_>>,
 ) -> Result<T, Failure> {
-    match answer {
-        Ok(value) => Ok(value),
-        Err(Complaint::Memory(e)) => Err(Failure::Memory(e)),
-        Err(complaint) => Err(Failure::AtLine {
-            file: String::from_str(heap, file)?,
-            line,
-            words: format!(in heap; "{complaint}")?,
-        }),
-    }
+    answer.try_map_err(|complaint| complaint.of_line(heap, file, line))
+}
+
+// What a word gave, or a complaint that names it.
+pub(crate) fn told<'a, T: Drop>(
+    what: &'static str,
+    word: &'a str,
+    value: Option<T>,
+) -> Result<T, Complaint<'a>> {
+    value.ok_or(Complaint::NoSuch { what, word })
 }

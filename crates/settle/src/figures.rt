@@ -1,7 +1,7 @@
 // Rates, factors and prices as people write them.
 ghost use Rattle.std.specs.Prelude.{◌≤◌, IfOk};
 
-use crate::failure::Complaint;
+use crate::failure::{Complaint, told};
 use dates::Date;
 use interest::{day_factor, trade_price};
 use std::alloc::Global;
@@ -77,7 +77,7 @@ pub(crate) fn number(text: &str) -> Option<u32> {
 }
 
 // A number with a point and up to so many decimals, in units of the last of them.
-fn parse_fixed(text: &str, places: u32) -> Option<u32> {
+pub(crate) fn decimal(text: &str, places: u32) -> Option<u32> {
     let Some((whole, decimals)) = text.split_once('.') else {
         return number(text)?.checked_mul(10u32.checked_pow(places)?);
     };
@@ -88,26 +88,11 @@ fn parse_fixed(text: &str, places: u32) -> Option<u32> {
         .checked_add(fraction)
 }
 
-// What a word says as a number with decimals, or a complaint that names it.
-pub(crate) fn decimal_of<'a>(
-    what: &'static str,
-    word: &'a str,
-    places: u32,
-) -> Result<u32, Complaint<'a>> {
-    parse_fixed(word, places).ok_or(Complaint::NoSuch { what, word })
-}
-
-// What a word says as a number.
-pub(crate) fn number_of<'a>(what: &'static str, word: &'a str) -> Result<u32, Complaint<'a>> {
-    number(word).ok_or(Complaint::NoSuch { what, word })
-}
-
 // The day of a date.
 pub(crate) fn day_of<'a>(word: &'a str) -> Result<u32, Complaint<'a>>
     ensures { IfOk result (λ day. day ≤ 36524) }
 {
-    let what = "no date";
-    let date = Date::parse(word).map_err(|_| Complaint::NoSuch { what, word })?;
+    let date = told("no date", word, Date::parse(word).ok())?;
     Ok(date.day_number())
 }
 
@@ -116,8 +101,8 @@ pub(crate) fn price<'a>(
     rate: &'a str,
     days: &'a str,
 ) -> Result<String, Complaint<'a>> {
-    let dealt = decimal_of("no rate", rate, RATE_PLACES)?;
-    let count = number_of("no number", days)?;
+    let dealt = told("no rate", rate, decimal(rate, RATE_PLACES))?;
+    let count = told("no number", days, number(days))?;
     let price = Points {
         hundredths: trade_price(dealt, count)? as u64,
     };
@@ -125,7 +110,7 @@ pub(crate) fn price<'a>(
 }
 
 pub(crate) fn factor<'a>(heap: Global, rate: &'a str) -> Result<String, Complaint<'a>> {
-    let di = decimal_of("no rate", rate, DI_PLACES)?;
+    let di = told("no rate", rate, decimal(rate, DI_PLACES))?;
     let factor = Fixed {
         value: day_factor(di).ok_or(Complaint::Words("rate over 99.999999 %"))?,
         places: FACTOR_PLACES,

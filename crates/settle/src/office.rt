@@ -3,9 +3,9 @@
 ghost use Rattle.settle.specs.Office.{office_kinds};
 ghost use Rattle.std.proofs.Common.{rules};
 
-use crate::failure::{Complaint, Failure, at_line, said};
-use crate::figures::{DI_PLACES, day_of, decimal_of, number_of};
-use crate::texts::{Line, lines_of, read_bytes, read_text};
+use crate::failure::{Complaint, Failure, at_line, said, told};
+use crate::figures::{DI_PLACES, day_of, decimal, number};
+use crate::texts::{Line, lines_of, read_from};
 use calendar::kind::{Calendar, DayKind};
 use calendar::marked::MarkedCalendar;
 use calendar::rule::{Exception, RuleCalendar};
@@ -13,6 +13,7 @@ use rates::layer::{Arbitrated, DayRate};
 use rates::source::Publishing;
 use rates::table::TableSource;
 use std::alloc::{AllocError, Global};
+use std::fs;
 
 // The most days of a table of rates.
 const MOST_RATES: u32 = 36_525;
@@ -65,15 +66,12 @@ fn new_rates(heap: Global, first: u32, count: u32) -> Result<OfficeRates, AllocE
     Ok(Arbitrated::new(heap, TableSource::empty(heap, first, count)?)?)
 }
 
-fn kind_of_day<'a>(word: &'a str) -> Result<DayKind, Complaint<'a>> {
+fn kind_of_day(word: &str) -> Option<DayKind> {
     match word {
-        "closed" => Ok(DayKind::Closed),
-        "reserve" => Ok(DayKind::Reserve),
-        "session" => Ok(DayKind::Session),
-        _ => Err(Complaint::NoSuch {
-            what: "no kind of day",
-            word,
-        }),
+        "closed" => Some(DayKind::Closed),
+        "reserve" => Some(DayKind::Reserve),
+        "session" => Some(DayKind::Session),
+        _ => None,
     }
 }
 
@@ -84,7 +82,7 @@ fn exception<'a>(words: &[&'a str]) -> Result<Exception, Complaint<'a>> {
     };
     Ok(Exception {
         day: day_of(date)?,
-        kind: kind_of_day(kind)?,
+        kind: told("no kind of day", kind, kind_of_day(kind))?,
     })
 }
 
@@ -94,7 +92,7 @@ fn rates_line<'a>(heap: Global, words: &[&'a str]) -> Result<OfficeRates, Compla
         return Err(Complaint::Words("expected: rates table FIRST COUNT"));
     };
     let first = day_of(first)?;
-    let count = number_of("no number", count)?;
+    let count = told("no number", count, number(count))?;
     if count > MOST_RATES {
         return Err(Complaint::Words("over 36525 days"));
     }
@@ -108,7 +106,7 @@ fn day_rate<'a>(expected: &'static str, words: &[&'a str]) -> Result<DayRate, Co
     };
     Ok(DayRate {
         day: day_of(date)?,
-        rate: decimal_of("no rate", percent, DI_PLACES)?,
+        rate: told("no rate", percent, decimal(percent, DI_PLACES))?,
     })
 }
 
@@ -117,7 +115,7 @@ impl Draft {
     fn begin<'a>(rt: &HostRuntime, words: &[&'a str]) -> Result<Draft, Complaint<'a>> {
         let days = match words {
             ["calendar", "rule"] => Days::Rule(Vec::new(rt.alloc())),
-            ["calendar", "marked", path] => Days::Marked(read_bytes(rt, path)?),
+            ["calendar", "marked", path] => Days::Marked(read_from(path, fs::read(rt, path))?),
             ["calendar", ..] => {
                 return Err(Complaint::Words("expected: calendar rule, or calendar marked FILE"));
             }
@@ -197,7 +195,7 @@ impl Draft {
 // The office that a file describes.
 pub(crate) fn read_office(rt: &HostRuntime, file: &str) -> Result<Office, Failure> {
     let heap = rt.alloc();
-    let text = said(heap, read_text(rt, file))?;
+    let text = said(heap, read_from(file, fs::read_to_string(rt, file)))?;
     let lines = lines_of(heap, text.as_str())?;
     let Some((first, rest)) = lines.as_slice().split_first() else {
         return at_line(heap, file, 1, Err(Complaint::Words("no calendar line")));

@@ -3,98 +3,17 @@ use crate::failure::{Failure, said};
 use crate::figures::{Counted, Fixed, Points, RATE_PLACES};
 use crate::office::{OfficeCalendar, read_office};
 use crate::sheets::{Code, view};
-use crate::texts::read_bytes;
+use crate::texts::read_from;
 use calendar::kind::Calendar;
 use calendar::span::{count_reserve_days, expiry};
 use dates::Day;
-use pricing::{AnyTrade, InMonth, OnCalendar, Sides, Tally, add_up, in_price, price_trade};
+use pricing::{AnyTrade, InMonth, OnCalendar, Sides, add_up, in_price, price_trade};
 use sheet::{SheetView, Trade};
 use std::alloc::{AllocError, Global};
-use std::fmt;
+use std::{fmt, fs};
 
 const HEADING: &str =
     "line  rate buyer  rate seller  PU buyer  PU seller  code    expiry      days    rate %  contracts          PU\n";
-
-// The last column: the price, or why there is none.
-fn price_words(
-    heap: Global,
-    calendar: &OfficeCalendar,
-    session: u32,
-    trade: Trade,
-) -> Result<String, AllocError> {
-    match price_trade(calendar, session, trade) {
-        Ok(priced) => {
-            let price = Points {
-                hundredths: priced.price as u64,
-            };
-            let price = format!(in heap; "{price}")?;
-            format!(in heap; "{price:>10}")
-        }
-        Err(cause) => format!(in heap; "not priced: {cause}"),
-    }
-}
-
-// The expiry and the reserve days to it, where there are any.
-fn term_words(
-    heap: Global,
-    calendar: &OfficeCalendar,
-    session: u32,
-    month: u32,
-) -> Result<(String, String), AllocError> {
-    let none = String::from_str(heap, "-")?;
-    match expiry(calendar, month) {
-        None => Ok((none, String::from_str(heap, "-")?)),
-        Some(day) => {
-            let date = format!(in heap; "{}", Day { number: day })?;
-            if day <= session {
-                return Ok((date, none));
-            }
-            let days = count_reserve_days(calendar, session, day);
-            Ok((date, format!(in heap; "{days}")?))
-        }
-    }
-}
-
-// A line of the sheet.
-fn row(
-    heap: Global,
-    calendar: &OfficeCalendar,
-    session: u32,
-    line: usize,
-    trade: Trade,
-) -> Result<String, AllocError> {
-    let Trade {
-        buyer,
-        seller,
-        month,
-        rate,
-        quantity,
-    } = trade;
-    let Sides {
-        buyer: buys,
-        seller: sells,
-    } = in_price(trade);
-    let sides = format!(in heap; "{line:>4}  {buyer:>10}  {seller:>11}  {buys:>8}  {sells:>9}")?;
-    let code = format!(in heap; "{}", Code { month })?;
-    let (date, days) = term_words(heap, calendar, session, month)?;
-    let rate = Fixed {
-        value: rate,
-        places: RATE_PLACES,
-    };
-    let rate = format!(in heap; "{rate}")?;
-    let terms = format!(in heap; "{code:<6}  {date:<10}  {days:>4}  {rate:>8}  {quantity:>9}")?;
-    let price = price_words(heap, calendar, session, trade)?;
-    format!(in heap; "{sides}  {terms}  {price}\n")
-}
-
-// The lines of the sheet.
-fn rows(heap: Global, calendar: &OfficeCalendar, view: &SheetView) -> Result<String, AllocError> {
-    let mut text = String::new(heap);
-    for (line, trade) in (0..view.count()).zip(view.trades()) {
-        text.push_str(row(heap, calendar, view.day(), line, trade)?.as_str())?;
-    }
-    Ok(text)
-}
 
 fn lines(count: u32) -> Counted {
     Counted {
@@ -130,67 +49,147 @@ impl fmt::Display for Total {
     }
 }
 
-// The two lines of totals.
-fn totals(heap: Global, all: Tally, priced: Tally) -> Result<String, AllocError> {
-    let of_lines = Total {
-        all: lines(all.lines),
-        priced: priced.lines as u64,
-    };
-    let of_contracts = Total {
-        all: contracts(all.contracts),
-        priced: priced.contracts,
-    };
-    format!(in heap; "{of_lines}{of_contracts}")
+// A sheet, and the calendar on which it is priced.
+#[derive(Clone, Copy)]
+struct Report<'a> {
+    calendar: &'a OfficeCalendar,
+    view: SheetView<'a>,
 }
 
-// The months that a sheet names, in order, each once.
-fn months(heap: Global, view: &SheetView) -> Result<Vec<u32>, AllocError> {
-    let mut months: Vec<u32> = view.trades().map(|trade| trade.month).collect(heap)?;
-    months.sort_unstable();
-    months.dedup();
-    Ok(months)
-}
-
-// The line of a month.
-fn month_line(heap: Global, view: &SheetView, month: u32) -> Result<String, AllocError> {
-    let tally = add_up(view, &InMonth { month });
-    let code = Code { month };
-    let lines = lines(tally.lines);
-    let contracts = contracts(tally.contracts);
-    format!(in heap; "{code}: {lines}, {contracts}\n")
-}
-
-// The whole print of a sheet on a calendar.
-fn priced(
-    heap: Global,
-    calendar: &OfficeCalendar,
-    file: &str,
-    view: &SheetView,
-) -> Result<String, Failure> {
-    let session = view.day();
-    let day = Day { number: session };
-    if !calendar.kind(session).is_session() {
-        return Err(Failure::About {
-            file: String::from_str(heap, file)?,
-            words: format!(in heap; "{day} is no session of the calendar")?,
-        });
+impl Report<'_> {
+    // The last column: the price, or why there is none.
+    fn price_words(&self, heap: Global, trade: Trade) -> Result<String, AllocError> {
+        match price_trade(self.calendar, self.view.day(), trade) {
+            Ok(priced) => {
+                let price = Points {
+                    hundredths: priced.price as u64,
+                };
+                let price = format!(in heap; "{price}")?;
+                format!(in heap; "{price:>10}")
+            }
+            Err(cause) => format!(in heap; "not priced: {cause}"),
+        }
     }
-    let mut text = format!(in heap; "session {day}\n{HEADING}")?;
-    text.push_str(rows(heap, calendar, view)?.as_str())?;
-    let all = add_up(view, &AnyTrade);
-    let priced = add_up(view, &OnCalendar { calendar, session });
-    text.push_str(totals(heap, all, priced)?.as_str())?;
-    for month in months(heap, view)? {
-        text.push_str(month_line(heap, view, month)?.as_str())?;
+
+    // The expiry and the reserve days to it, where there are any.
+    fn term_words(&self, heap: Global, month: u32) -> Result<(String, String), AllocError> {
+        let session = self.view.day();
+        let none = String::from_str(heap, "-")?;
+        match expiry(self.calendar, month) {
+            None => Ok((none, String::from_str(heap, "-")?)),
+            Some(day) => {
+                let date = format!(in heap; "{}", Day { number: day })?;
+                if day <= session {
+                    return Ok((date, none));
+                }
+                let days = count_reserve_days(self.calendar, session, day);
+                Ok((date, format!(in heap; "{days}")?))
+            }
+        }
     }
-    Ok(text)
+
+    // A line of the sheet.
+    fn row(&self, heap: Global, line: usize, trade: Trade) -> Result<String, AllocError> {
+        let Trade {
+            buyer,
+            seller,
+            month,
+            rate,
+            quantity,
+        } = trade;
+        let Sides {
+            buyer: buys,
+            seller: sells,
+        } = in_price(trade);
+        let sides = format!(in heap;
+            "{line:>4}  {buyer:>10}  {seller:>11}  {buys:>8}  {sells:>9}"
+        )?;
+        let code = format!(in heap; "{}", Code { month })?;
+        let (date, days) = self.term_words(heap, month)?;
+        let rate = Fixed {
+            value: rate,
+            places: RATE_PLACES,
+        };
+        let rate = format!(in heap; "{rate}")?;
+        let terms = format!(in heap; "{code:<6}  {date:<10}  {days:>4}  {rate:>8}  {quantity:>9}")?;
+        let price = self.price_words(heap, trade)?;
+        format!(in heap; "{sides}  {terms}  {price}\n")
+    }
+
+    // The lines of the sheet.
+    fn rows(&self, heap: Global) -> Result<String, AllocError> {
+        let mut text = String::new(heap);
+        for (line, trade) in (0..self.view.count()).zip(self.view.trades()) {
+            text.push_str(self.row(heap, line, trade)?.as_str())?;
+        }
+        Ok(text)
+    }
+
+    // The two lines of totals.
+    fn totals(&self, heap: Global) -> Result<String, AllocError> {
+        let all = add_up(&self.view, &AnyTrade);
+        let calendar = self.calendar;
+        let session = self.view.day();
+        let priced = add_up(&self.view, &OnCalendar { calendar, session });
+        let of_lines = Total {
+            all: lines(all.lines),
+            priced: priced.lines as u64,
+        };
+        let of_contracts = Total {
+            all: contracts(all.contracts),
+            priced: priced.contracts,
+        };
+        format!(in heap; "{of_lines}{of_contracts}")
+    }
+
+    // The months that the sheet names, in order, each once.
+    fn months(&self, heap: Global) -> Result<Vec<u32>, AllocError> {
+        let mut months: Vec<u32> = self.view.trades().map(|trade| trade.month).collect(heap)?;
+        months.sort_unstable();
+        months.dedup();
+        Ok(months)
+    }
+
+    // The line of a month.
+    fn month_line(&self, heap: Global, month: u32) -> Result<String, AllocError> {
+        let tally = add_up(&self.view, &InMonth { month });
+        let code = Code { month };
+        let lines = lines(tally.lines);
+        let contracts = contracts(tally.contracts);
+        format!(in heap; "{code}: {lines}, {contracts}\n")
+    }
+
+    // The whole print.
+    fn print(&self, heap: Global) -> Result<String, AllocError> {
+        let day = Day {
+            number: self.view.day(),
+        };
+        let mut text = format!(in heap; "session {day}\n{HEADING}")?;
+        text.push_str(self.rows(heap)?.as_str())?;
+        text.push_str(self.totals(heap)?.as_str())?;
+        for month in self.months(heap)? {
+            text.push_str(self.month_line(heap, month)?.as_str())?;
+        }
+        Ok(text)
+    }
 }
 
 // Prices every line of a sheet on the office's calendar.
 pub(crate) fn prices(rt: &HostRuntime, office: &str, file: &str) -> Result<String, Failure> {
     let heap = rt.alloc();
     let office = read_office(rt, office)?;
-    let bytes = said(heap, read_bytes(rt, file))?;
+    let bytes = said(heap, read_from(file, fs::read(rt, file)))?;
     let view = view(heap, file, bytes.as_slice())?;
-    priced(heap, &office.calendar, file, &view)
+    let day = Day { number: view.day() };
+    if !office.calendar.kind(view.day()).is_session() {
+        return Err(Failure::About {
+            file: String::from_str(heap, file)?,
+            words: format!(in heap; "{day} is no session of the calendar")?,
+        });
+    }
+    let report = Report {
+        calendar: &office.calendar,
+        view,
+    };
+    Ok(report.print(heap)?)
 }

@@ -1,14 +1,11 @@
 // Sheets as text and back.
-use crate::failure::{Complaint, Failure, at_line, said};
-use crate::figures::{Counted, Fixed, RATE_PLACES, day_of, decimal_of, number, number_of};
-use crate::texts::{Line, lines_of, read_bytes, read_text};
+use crate::failure::{Complaint, Failure, at_line, said, told};
+use crate::figures::{Counted, Fixed, RATE_PLACES, day_of, decimal, number};
+use crate::texts::{Line, lines_of, read_from};
 use dates::Day;
-use sheet::{ContractCode, SheetFault, SheetView, Trade, read, write};
+use sheet::{ContractCode, MOST_TRADES, SheetFault, SheetView, Trade, read, write};
 use std::alloc::{AllocError, Global};
 use std::{fmt, fs};
-
-// The most trades of a sheet.
-const MOST_TRADES: usize = 256;
 
 // The count that a sheet's first bytes say.
 fn count_said(bytes: &[u8]) -> u16 {
@@ -54,13 +51,12 @@ pub(crate) fn view<'a>(
     file: &str,
     bytes: &'a [u8],
 ) -> Result<SheetView<'a>, Failure> {
-    match read(bytes) {
-        Ok(view) => Ok(view),
-        Err(fault) => Err(Failure::About {
+    read(bytes).try_map_err(|fault| {
+        Ok(Failure::About {
             file: String::from_str(heap, file)?,
             words: format!(in heap; "{}", FaultWords { bytes, fault })?,
-        }),
-    }
+        })
+    })
 }
 
 // The code of a month, shown as nothing where it has none.
@@ -105,7 +101,7 @@ impl fmt::Display for TradeLine {
 // A sheet as text.
 pub(crate) fn show(rt: &HostRuntime, file: &str) -> Result<String, Failure> {
     let heap = rt.alloc();
-    let bytes = said(heap, read_bytes(rt, file))?;
+    let bytes = said(heap, read_from(file, fs::read(rt, file)))?;
     let view = view(heap, file, bytes.as_slice())?;
     let day = Day { number: view.day() };
     let mut text = format!(in heap; "session {day}\n")?;
@@ -129,10 +125,8 @@ fn session_day<'a>(words: &[&'a str]) -> Result<u16, Complaint<'a>> {
     }
 }
 
-fn account<'a>(word: &'a str) -> Result<u8, Complaint<'a>> {
-    let what = "no account";
-    let number = number_of(what, word)?;
-    u8::try_from(number).map_err(|_| Complaint::NoSuch { what, word })
+fn account(word: &str) -> Option<u8> {
+    u8::try_from(number(word)?).ok()
 }
 
 // A trade line.
@@ -140,18 +134,16 @@ fn trade<'a>(words: &[&'a str]) -> Result<Trade, Complaint<'a>> {
     let ["trade", buyer, seller, code, rate, quantity] = words else {
         return Err(Complaint::Words("expected: trade BUYER SELLER CODE RATE QUANTITY"));
     };
-    let buyer = account(buyer)?;
-    let seller = account(seller)?;
-    let contract = ContractCode::from_bytes(code.as_bytes()).ok_or(Complaint::NoSuch {
-        what: "no contract code",
-        word: code,
-    })?;
+    let buyer = told("no account", buyer, account(buyer))?;
+    let seller = told("no account", seller, account(seller))?;
+    let contract = ContractCode::from_bytes(code.as_bytes());
+    let contract = told("no contract code", code, contract)?;
     Ok(Trade {
         buyer,
         seller,
         month: contract.month(),
-        rate: decimal_of("no rate", rate, RATE_PLACES)?,
-        quantity: number_of("no quantity", quantity)?,
+        rate: told("no rate", rate, decimal(rate, RATE_PLACES))?,
+        quantity: told("no quantity", quantity, number(quantity))?,
     })
 }
 
@@ -168,7 +160,7 @@ fn later_line<'a>(before: usize, words: &[&'a str]) -> Result<Trade, Complaint<'
         }
         [] => return Err(Complaint::Words("no word")),
     };
-    if before >= MOST_TRADES {
+    if before >= MOST_TRADES as usize {
         return Err(Complaint::Words("over 256 trades"));
     }
     Ok(trade)
@@ -215,7 +207,7 @@ fn sheet_of(heap: Global, file: &str, text: &str) -> Result<(usize, Vec<u8>), Fa
 // Writes the sheet that a text describes.
 pub(crate) fn make(rt: &HostRuntime, text: &str, file: &str) -> Result<String, Failure> {
     let heap = rt.alloc();
-    let lines = said(heap, read_text(rt, text))?;
+    let lines = said(heap, read_from(text, fs::read_to_string(rt, text)))?;
     let (count, bytes) = sheet_of(heap, text, lines.as_str())?;
     if fs::write(rt, file, bytes.as_slice()).is_err() {
         return said(heap, Err(Complaint::CannotWrite(file)));

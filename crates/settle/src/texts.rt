@@ -1,7 +1,7 @@
 // Text files as numbered lines of words.
 use crate::failure::Complaint;
 use std::alloc::{AllocError, Global};
-use std::fs;
+use std::io;
 
 // A line that is not passed over: its number, from 1, and its words.
 #[derive(Drop)]
@@ -10,13 +10,9 @@ pub(crate) struct Line<'a> {
     pub(crate) words: Vec<&'a str>,
 }
 
-// The whole of a text file.
-pub(crate) fn read_text<'a>(rt: &HostRuntime, file: &'a str) -> Result<String, Complaint<'a>> {
-    fs::read_to_string(rt, file).map_err(|_| Complaint::CannotRead(file))
-}
-
-pub(crate) fn read_bytes<'a>(rt: &HostRuntime, file: &'a str) -> Result<Vec<u8>, Complaint<'a>> {
-    fs::read(rt, file).map_err(|_| Complaint::CannotRead(file))
+// What was read from a file, as text or as bytes.
+pub(crate) fn read_from<T: Drop>(file: &str, read: io::Result<T>) -> Result<T, Complaint<'_>> {
+    read.map_err(|_| Complaint::CannotRead(file))
 }
 
 // The lines with words, but for notes, which begin with `#`.

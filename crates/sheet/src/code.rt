@@ -35,6 +35,7 @@ impl ContractCode {
     }
 
     // The month whose code these bytes are.
+    // Kept: a TryFrom of a month or of bytes would need error types that say no more than None.
     pub fn from_bytes(bytes: &[u8]) -> Option<ContractCode>
         ensures { MatchOption result (NoCode bytes.now) (λ c. Names bytes.now c.month) }
     {

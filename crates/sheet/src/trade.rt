@@ -31,6 +31,7 @@ pub enum SheetFault {
 
 impl SheetFault {
     // The line that the fault tells: that of a wrong code, else 0.
+    // Kept: a refused sheet tells line 0 by the rules where no line is at fault.
     pub fn line(&self) -> u32
         ensures { result ≡ fault_line self.now }
     {
