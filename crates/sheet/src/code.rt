@@ -53,9 +53,22 @@ impl ContractCode {
     pub fn bytes(&self) -> [u8; 6]
         ensures { result ≡ code_bytes self.now.month }
     {
-        let letter = letter_of(self.month % 12);
-        let (tens, ones) = year_digits(self.month);
+        let (letter, tens, ones) = self.parts();
         [b'D', b'I', b'1', letter as u8, b'0' + tens, b'0' + ones]
+    }
+
+    // The letter of the month, and the two digits of the year.
+    fn parts(&self) -> (char, u8, u8)
+        ensures letter { (result.0 ≡ letter_of (self.now.month % 12)) × (result.0 < 128) }
+        ensures tens { (result.1 ≡ self.now.month / 12 / 10) × (result.1 < 10) }
+        ensures ones { (result.2 ≡ self.now.month / 12 % 10) × (result.2 < 10) }
+    {
+        let year = self.month / 12;
+        (
+            letter(self.month % 12).unwrap(),
+            (year / 10) as u8,
+            (year % 10) as u8,
+        )
     }
 }
 
@@ -63,8 +76,7 @@ impl fmt::Display for ContractCode {
     ghost output = { λ c. Some (code_bytes c.month) };
 
     fn fmt<W: fmt::Write>(&self, f: &mut fmt::Formatter<W>) -> fmt::Result {
-        let letter = letter_of(self.month % 12);
-        let (tens, ones) = year_digits(self.month);
+        let (letter, tens, ones) = self.parts();
         write!(f, "DI1{letter}{tens}{ones}")
     }
 }
@@ -74,22 +86,4 @@ fn digit(byte: u8) -> Option<u32>
     ensures { MatchOption result ((d : ℕ) → d < 10 → byte ≢ 48 + d) (λ d. (d < 10) × (byte ≡ 48 + d)) }
 {
     char::from(byte).to_digit(10)
-}
-
-// The letter of a month of the year.
-fn letter_of(month_of_year: u32) -> char
-    requires { month_of_year < 12 }
-    ensures { (result ≡ letter_of month_of_year) × (result < 128) }
-{
-    letter(month_of_year).unwrap()
-}
-
-// The two digits of the year of a month.
-fn year_digits(month: u32) -> (u8, u8)
-    requires { month ≤ last_month }
-    ensures tens { (result.0 ≡ month / 12 / 10) × (result.0 < 10) }
-    ensures ones { (result.1 ≡ month / 12 % 10) × (result.1 < 10) }
-{
-    let year = month / 12;
-    ((year / 10) as u8, (year % 10) as u8)
 }

@@ -42,6 +42,7 @@ impl SheetFault {
     }
 }
 
+// Kept: a derived Display states no output, which pins the words.
 impl fmt::Display for SheetFault {
     ghost output = { λ fault. Some (fault_message fault) };
 
@@ -73,6 +74,7 @@ pub enum WriteFault {
     BadSheet,
 }
 
+// Kept: a derived Display states no output, which pins the words.
 impl fmt::Display for WriteFault {
     ghost output = { λ fault. Some (write_message fault) };
 

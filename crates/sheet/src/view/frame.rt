@@ -8,7 +8,7 @@ use crate::numbers::array_of;
 use crate::trade::{MOST_TRADES, SheetFault};
 
 // Bytes whose length is that of a sheet, with the count and the day of their head.
-// Kept: the bytes stay whole, as what is said of them is; sides and terms apart would be two slices and still the count.
+// Kept: the bytes stay whole, since the sheet's definitions speak of them whole.
 #[derive(Clone, Copy, Debug)]
 pub(super) struct Frame<'a> {
     bytes: &'a [u8],

@@ -1,5 +1,5 @@
 // The trades of a sheet, from its first line to its last.
-ghost use Rattle.std.specs.Prelude.{◌≡◌};
+ghost use Rattle.std.specs.Prelude.{◌≡◌, ◌≤◌, length};
 ghost use Rattle.std.specs.Iterator.{YieldsFirst, item_count};
 ghost use Rattle.sheet.specs.Views.{view_trades};
 ghost use Rattle.sheet.specs.Lines.{trades_left};
@@ -17,7 +17,8 @@ pub struct Trades<'a> {
 impl<'a> SheetView<'a> {
     // The trades, in the order of their lines.
     pub fn trades(&self) -> Trades<'a>
-        ensures { trades_left result ≡ view_trades self.now }
+        ensures items { trades_left result ≡ view_trades self.now }
+        ensures few { length (view_trades self.now) ≤ 256 }
     {
         Trades {
             view: *self,
