@@ -6,7 +6,7 @@ ghost use Rattle.calendar.specs.Ruled.{rule_kinds, Tells};
 ghost use Rattle.std.proofs.Common.{rules};
 
 use crate::kind::{Calendar, DayKind};
-use dates::LAST_DAY;
+use dates::{LAST_DAY, Weekday};
 use std::alloc::{AllocError, Global};
 
 // A day and its kind.
@@ -35,14 +35,13 @@ pub struct RuleCalendar {
     days: Vec<DayKind>,
 }
 
-// What the week says: day 0 is a Saturday.
+// What the week says.
 fn kind_of_week(day: u32) -> DayKind
     ensures { result ≡ of_week day }
 {
-    if day % 7 < 2 {
-        DayKind::Closed
-    } else {
-        DayKind::Session
+    match Weekday::of_day(day) {
+        Weekday::Saturday | Weekday::Sunday => DayKind::Closed,
+        _ => DayKind::Session,
     }
 }
 

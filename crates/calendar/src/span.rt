@@ -38,7 +38,7 @@ pub fn count_reserve_days<C: Calendar>(calendar: &C, from: u32, to: u32) -> u32
 }
 
 // The first session day from `from`, included, to `to`, excluded.
-// Kept: a day stays a number, with its bound in three contracts; a type for it would be taken apart again at each sum and comparison.
+// Kept: callers add to days and compare them as numbers; a type with the bound would be taken apart at each.
 fn first_session<C: Calendar>(calendar: &C, from: u32, to: u32) -> Option<u32>
     ensures value { result ≡ first_session (C.kinds calendar.now) from to }
     ensures first { First (C.kinds calendar.now) from to result }

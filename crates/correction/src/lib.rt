@@ -49,6 +49,7 @@ impl Uncorrected {
     }
 }
 
+// Kept: a derived Display states no output, which pins the words.
 impl fmt::Display for Uncorrected {
     ghost output = { λ e. Some (message e) };
 
@@ -74,7 +75,6 @@ fn by_rate<S: RateSource>(source: &S, day: u32, price: u64) -> Result<u64, Uncor
     Ok(correct_day(price, factor).unwrap())
 }
 
-// Kept: calendar and source are two parameters, as who holds both lends each by itself; a pair of references would be made at each call.
 // A price that was carried to a day, carried over that day too: by its rate if it is a reserve day.
 fn day_on<C: Calendar, S: RateSource>(
     calendar: &C,
@@ -104,6 +104,7 @@ fn carry<C: Calendar, S: RateSource>(calendar: &C, source: &S, gap: Gap) -> Resu
     Ok(carried)
 }
 
+// Kept: two parameters, since counting days takes the calendar alone, and a day's rate the source alone.
 // The price of a gap's session, corrected over the reserve days of the gap.
 pub fn correct<C: Calendar, S: RateSource>(
     calendar: &C,

@@ -45,6 +45,7 @@ pub fn month_length(month: u32) -> Option<u32>
 }
 
 // The first day of a month, or of the month after the last.
+// Kept: a month stays a number, as callers have it, and this takes the one after the last too.
 fn start(month: u32) -> u32
     requires { month ≤ 1200 }
     ensures value { result ≡ first_day month }

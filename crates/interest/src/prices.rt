@@ -10,7 +10,7 @@ use std::fmt;
 // The greatest DI rate, in millionths of a percent.
 const DI_MOST: u32 = 99_999_999;
 // The greatest dealt rate, in thousandths of a percent.
-const DEALT_MOST: u32 = 99_999;
+pub const DEALT_MOST: u32 = 99_999;
 // The most reserve days to an expiry.
 const DAYS_MOST: u32 = 2_520;
 
@@ -21,6 +21,7 @@ pub enum Unpriceable {
     TooFar,
 }
 
+// Kept: a derived Display states no output, which pins the words.
 impl fmt::Display for Unpriceable {
     ghost output = { λ e. Some (message e) };
 
@@ -35,7 +36,7 @@ impl fmt::Display for Unpriceable {
 impl std::error::Error for Unpriceable {}
 
 // A factor of nine decimals, rounded to eight.
-// Kept: one rounding over a const parameter would need this and to_centavos again, for their bounds.
+// Kept: one rounding over a const parameter was tried; this and to_centavos stand again above it, for their bounds.
 fn to_eight_decimals(factor: u64) -> u32
     requires { factor ≤ 2000000000 }
     ensures { result ≡ (factor + 5) / 10 }

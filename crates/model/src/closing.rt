@@ -45,20 +45,20 @@ impl From<Uncorrected> for Unsettled {
 }
 
 // The latest settlement price, corrected to the session; none is carried into the first.
+// Kept: calendar and source are two parameters, as in `correct`.
 fn corrected_price<C: Calendar, S: RateSource>(
     calendar: &C,
     source: &S,
-    latest: Option<Settled>,
-    day: u32,
+    close: MonthClose,
 ) -> Result<u64, Uncorrected>
-    ensures { MatchResult result (λ p. Correctable (C.kinds calendar.now) (S.rates source.now) latest day × (p ≡ corrected_in (C.kinds calendar.now) (S.rates source.now) latest day)) (Uncorrectable (C.kinds calendar.now) (S.rates source.now) latest day) }
+    ensures { MatchResult result (λ p. Correctable (C.kinds calendar.now) (S.rates source.now) close.latest close.day × (p ≡ corrected_in (C.kinds calendar.now) (S.rates source.now) close.latest close.day)) (Uncorrectable (C.kinds calendar.now) (S.rates source.now) close.latest close.day) }
 {
-    match latest {
+    match close.latest {
         None => Ok(0),
         Some(settled) => {
             let gap = Gap {
                 from: settled.day,
-                to: day,
+                to: close.day,
                 price: settled.price,
             };
             correct(calendar, source, gap)
@@ -79,6 +79,7 @@ fn carried_position(position: i32, trades: &[Trade], whose: AccountMonth) -> Opt
 }
 
 // The adjustment of an account in a month, on what the close of a session knows.
+// Kept: a function of its own below `settle`, where a wrong one is refused by this clause alone.
 fn adjusted<C: Calendar, S: RateSource>(
     calendar: &C,
     source: &S,
@@ -89,7 +90,7 @@ fn adjusted<C: Calendar, S: RateSource>(
 ) -> Result<i64, Unsettled>
     ensures { Computed (C.kinds calendar.now) (S.rates source.now) close trades.now whose.account whose.month position result }
 {
-    let corrected = corrected_price(calendar, source, close.latest, close.day)?;
+    let corrected = corrected_price(calendar, source, close)?;
     let corrected = u32::try_from(corrected).map_err(|_| Unsettled::OutOfRange)?;
     let carried = carried_position(position, trades, whose).ok_or(Unsettled::OutOfRange)?;
     adjustment(trades, whose, close.price, carried, corrected).ok_or(Unsettled::OutOfRange)

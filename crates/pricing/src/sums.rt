@@ -10,7 +10,7 @@ use calendar::kind::Calendar;
 use sheet::{SheetView, Trade};
 
 // A choice of trades.
-// Kept: of a closure the totals could say only what its `post` says, and would ask more of callers; `picked` gives the choice its meaning.
+// Kept: of a closure's choice the totals could say only what its `post` says, and callers would owe its `pre`.
 pub trait Pick {
     ghost picked: { Self → Trade → Bool };
 
@@ -70,6 +70,7 @@ pub struct Tally {
 pub fn add_up<P: Pick>(view: &SheetView<'_>, pick: &P) -> Tally
     ensures { Tallied (P.picked pick.now) (view_trades view.now) result }
 {
+    // Kept: one pass counts lines and contracts; two chains would go over the sheet twice.
     let mut lines = 0;
     let mut contracts: u64 = 0;
     for trade in view.trades() {

@@ -5,14 +5,11 @@ ghost use Rattle.pricing.specs.Pricing.{Answer, cause_refusal, message, turned, 
 use calendar::kind::Calendar;
 use calendar::span::{count_reserve_days, expiry};
 use dates::month_of;
-use interest::{Unpriceable, on_tick, trade_price};
+use interest::{DEALT_MOST, Unpriceable, on_tick, trade_price};
 use refusal::Refusal;
 use sheet::Trade;
 use std::error::Error;
 use std::fmt;
-
-// The greatest dealt rate, in thousandths of a percent.
-const MOST_RATE: u32 = 99_999;
 
 // Who buys and who sells in price.
 #[derive(Clone, Copy, PartialEq, Eq, Debug)]
@@ -32,6 +29,7 @@ pub fn in_price(trade: Trade) -> Sides
 }
 
 // A trade in price: who buys, who sells, when it expires, after how many reserve days, at what price.
+// Kept: buyer and seller are fields here too, as a reader of a priced trade asks for them by name.
 #[derive(Clone, Copy, PartialEq, Eq, Debug)]
 pub struct PricedTrade {
     pub buyer: u8,
@@ -42,6 +40,7 @@ pub struct PricedTrade {
 }
 
 // Why a trade is not priced.
+// Kept: the causes stand in the order of the rules, with the tick between those of Unpriceable.
 #[derive(Clone, Copy, PartialEq, Eq, Debug)]
 pub enum Cause {
     NoSession,
@@ -51,6 +50,7 @@ pub enum Cause {
     TooFar,
 }
 
+// Kept: a derived Display states no output, which pins the words.
 impl fmt::Display for Cause {
     ghost output = { λ cause. Some (message cause) };
 
@@ -104,7 +104,7 @@ pub fn price_trade<C: Calendar>(
     if expiry <= session {
         return Err(Cause::Expired);
     }
-    if trade.rate > MOST_RATE {
+    if trade.rate > DEALT_MOST {
         return Err(Cause::RateTooHigh);
     }
     let month = month_of(session).unwrap();

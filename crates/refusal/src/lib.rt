@@ -119,6 +119,7 @@ impl Refusal {
     }
 }
 
+// Kept: a derived Display states no output, which pins the words.
 impl fmt::Display for Refusal {
     ghost output = { λ x. Some (message x) };
 

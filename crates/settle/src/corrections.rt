@@ -1,8 +1,6 @@
 // A settlement price carried over the reserve days of a gap, day by day.
 use crate::failure::{Complaint, Failure, said, told};
-use crate::figures::{
-    Counted, DI_PLACES, FACTOR_PLACES, Fixed, PRICE_PLACES, Points, day_of, decimal,
-};
+use crate::figures::{Counted, DI_PLACES, FACTOR_PLACES, Fixed, PRICE_PLACES, Points, RATE_TOO_HIGH, day_of, decimal};
 use crate::office::{Office, read_office};
 use calendar::kind::Calendar;
 use calendar::span::count_reserve_days;
@@ -67,32 +65,33 @@ impl Correction<'_> {
         Ok(Points { hundredths })
     }
 
-    // The factor of a day that has a rate.
-    fn factor_on(&self, day: u32) -> Option<u32> {
-        day_factor(self.office.rates.rate(day)?)
-    }
-
-    // The row of a reserve day, with the price after it.
-    fn row(&self, heap: Global, day: u32, price: Points) -> Result<String, AllocError> {
-        let rates = &self.office.rates;
-        let rate = Fixed {
-            value: rates.rate(day).unwrap_or(0),
-            places: DI_PLACES,
-        };
-        let source = if rates.is_arbitrated(day) {
+    // The row of a reserve day, with its rate, the factor and the price after it.
+    fn row(
+        &self,
+        heap: Global,
+        day: u32,
+        rate: Fixed,
+        factor: Fixed,
+        price: Points,
+    ) -> Result<String, AllocError> {
+        let source = if self.office.rates.is_arbitrated(day) {
             "arbitrated"
         } else {
             "published"
-        };
-        let factor = Fixed {
-            value: self.factor_on(day).unwrap_or(0),
-            places: FACTOR_PLACES,
         };
         let date = format!(in heap; "{}", Day { number: day })?;
         let rate = format!(in heap; "{rate}")?;
         let factor = format!(in heap; "{factor}")?;
         let price = format!(in heap; "{price}")?;
         format!(in heap; "{date:<11}  {rate:>9}  {source:<10}  {factor:>10}  {price:>10}\n")
+    }
+
+    // The rate of a day that has one.
+    fn rate_on(&self, day: u32) -> Result<u32, Uncorrected> {
+        self.office
+            .rates
+            .rate(day)
+            .ok_or(Uncorrected::MissingRate(day))
     }
 
     // The rows of the reserve days, and the factor of the last of them.
@@ -102,8 +101,18 @@ impl Correction<'_> {
         for day in self.gap.from..self.gap.to {
             if self.office.calendar.kind(day).is_reserve() {
                 let price = self.carried_to(day + 1)?;
-                text.push_str(self.row(heap, day, price)?.as_str())?;
-                last = self.factor_on(day);
+                let rate = self.rate_on(day)?;
+                let factor = day_factor(rate).ok_or(Complaint::Words(RATE_TOO_HIGH))?;
+                last = Some(factor);
+                let rate = Fixed {
+                    value: rate,
+                    places: DI_PLACES,
+                };
+                let factor = Fixed {
+                    value: factor,
+                    places: FACTOR_PLACES,
+                };
+                text.push_str(self.row(heap, day, rate, factor, price)?.as_str())?;
             }
         }
         Ok((text, last))

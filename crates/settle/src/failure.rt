@@ -1,5 +1,7 @@
 // Why a command is refused.
+use crate::sheets::FaultWords;
 use correction::Uncorrected;
+use dates::Day;
 use interest::Unpriceable;
 use refusal::Refusal;
 use std::alloc::{AllocError, Global};
@@ -17,6 +19,10 @@ pub(crate) enum Complaint<'a> {
     CannotRead(&'a str),
     #[error("cannot write {0}")]
     CannotWrite(&'a str),
+    #[error("{0}")]
+    NoSheet(FaultWords<'a>),
+    #[error("{0} is no session of the calendar")]
+    NoSession(Day),
     #[error("refused {number}: {refusal}")]
     Refused { number: u32, refusal: Refusal },
     #[error("{0}")]
@@ -50,52 +56,26 @@ pub(crate) enum Failure {
     },
     // about a file
     #[error("{file}: {words}")]
-    About {
-        file: String,
-        words: String,
-    },
+    About { file: String, words: String },
     #[error("out of memory")]
     Memory(#[from(alloc)] AllocError),
     #[error("cannot write standard output")]
     Output(#[from] io::Error),
 }
 
-// The failure that a complaint is, or that of memory.
 impl Complaint<'_> {
-    // About the words of a command.
-    fn of_command(self, heap: Global) -> Result<Failure, Failure> {
-        Ok(match self {
-            Complaint::Memory(e) => Failure::Memory(e),
-            complaint => Failure::Said(format!(in heap; "{complaint}")?),
-        })
-    }
-
-    // About a line of a file.
-    fn of_line(self, heap: Global, file: &str, line: usize) -> Result<Failure, Failure> {
-        Ok(match self {
-            Complaint::Memory(e) => Failure::Memory(e),
-            complaint => Failure::AtLine {
-                file: String::from_str(heap, file)?,
-                line,
-                words: format!(in heap; "{complaint}")?,
-            },
-        })
+    // In words, unless memory ran out.
+    fn words(self, heap: Global) -> Result<String, AllocError> {
+        match self {
+            Complaint::Memory(e) => Err(e),
+            complaint => format!(in heap; "{complaint}"),
+        }
     }
 }
 
 // What the words of a command gave.
 pub(crate) fn said<T: Drop>(heap: Global, answer: Result<T, Complaint<'_>>) -> Result<T, Failure> {
-    answer.try_map_err(|complaint| complaint.of_command(heap))
-}
-
-// What a line of a file gave.
-pub(crate) fn at_line<T: Drop>(
-    heap: Global,
-    file: &str,
-    line: usize,
-    answer: Result<T, Complaint<'_>>,
-) -> Result<T, Failure> {
-    answer.try_map_err(|complaint| complaint.of_line(heap, file, line))
+    answer.try_map_err(|complaint| Ok(Failure::Said(complaint.words(heap)?)))
 }
 
 // What a word gave, or a complaint that names it.
@@ -105,4 +85,38 @@ pub(crate) fn told<'a, T: Drop>(
     value: Option<T>,
 ) -> Result<T, Complaint<'a>> {
     value.ok_or(Complaint::NoSuch { what, word })
+}
+
+// A file by its name, and where complaints about it are written.
+#[derive(Clone, Copy)]
+pub(crate) struct Source<'a> {
+    pub(crate) heap: Global,
+    pub(crate) file: &'a str,
+}
+
+impl Source<'_> {
+    // What a line gave.
+    pub(crate) fn at_line<T: Drop>(
+        &self,
+        line: usize,
+        answer: Result<T, Complaint<'_>>,
+    ) -> Result<T, Failure> {
+        answer.try_map_err(|complaint| {
+            Ok(Failure::AtLine {
+                words: complaint.words(self.heap)?,
+                file: String::from_str(self.heap, self.file)?,
+                line,
+            })
+        })
+    }
+
+    // What the file as a whole gave.
+    pub(crate) fn about<T: Drop>(&self, answer: Result<T, Complaint<'_>>) -> Result<T, Failure> {
+        answer.try_map_err(|complaint| {
+            Ok(Failure::About {
+                words: complaint.words(self.heap)?,
+                file: String::from_str(self.heap, self.file)?,
+            })
+        })
+    }
 }

@@ -16,6 +16,9 @@ pub(crate) const DI_PLACES: u32 = 6;
 
 pub(crate) const FACTOR_PLACES: u32 = 8;
 
+// A DI rate that has no day factor.
+pub(crate) const RATE_TOO_HIGH: &str = "rate over 99.999999 %";
+
 // A number with so many decimals after the point.
 #[derive(Clone, Copy)]
 pub(crate) struct Fixed {
@@ -112,7 +115,7 @@ pub(crate) fn price<'a>(
 pub(crate) fn factor<'a>(heap: Global, rate: &'a str) -> Result<String, Complaint<'a>> {
     let di = told("no rate", rate, decimal(rate, DI_PLACES))?;
     let factor = Fixed {
-        value: day_factor(di).ok_or(Complaint::Words("rate over 99.999999 %"))?,
+        value: day_factor(di).ok_or(Complaint::Words(RATE_TOO_HIGH))?,
         places: FACTOR_PLACES,
     };
     Ok(format!(in heap; "{factor}\n")?)

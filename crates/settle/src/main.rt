@@ -26,13 +26,9 @@ settle help                          this list
 // The words after the program's name.
 fn words(rt: &HostRuntime) -> Result<Vec<String>, Failure> {
     let heap = rt.alloc();
-    match env::args(rt) {
-        Ok(given) => Ok(given.skip(1).collect(heap)?),
-        Err(_) => said(
-            heap,
-            Err(Complaint::Words("a word of the command is not UTF-8")),
-        ),
-    }
+    let refused = Complaint::Words("a word of the command is not UTF-8");
+    let given = said(heap, env::args(rt).map_err(|_| refused))?;
+    Ok(given.skip(1).collect(heap)?)
 }
 
 // What a command prints.

@@ -3,9 +3,9 @@
 ghost use Rattle.settle.specs.Office.{office_kinds};
 ghost use Rattle.std.proofs.Common.{rules};
 
-use crate::failure::{Complaint, Failure, at_line, said, told};
+use crate::failure::{Complaint, Failure, Source, said, told};
 use crate::figures::{DI_PLACES, day_of, decimal, number};
-use crate::texts::{Line, lines_of, read_from};
+use crate::texts::{Line, first_of, lines_of, read_from};
 use calendar::kind::{Calendar, DayKind};
 use calendar::marked::MarkedCalendar;
 use calendar::rule::{Exception, RuleCalendar};
@@ -184,10 +184,7 @@ impl Draft {
                 exceptions.as_slice(),
             )?),
         };
-        let rates = match rates {
-            Some(rates) => rates,
-            None => new_rates(heap, 0, 0)?,
-        };
+        let rates = rates.map_or_else(|| new_rates(heap, 0, 0), Ok)?;
         Ok(Office { calendar, rates })
     }
 }
@@ -195,19 +192,13 @@ impl Draft {
 // The office that a file describes.
 pub(crate) fn read_office(rt: &HostRuntime, file: &str) -> Result<Office, Failure> {
     let heap = rt.alloc();
+    let source = Source { heap, file };
     let text = said(heap, read_from(file, fs::read_to_string(rt, file)))?;
     let lines = lines_of(heap, text.as_str())?;
-    let Some((first, rest)) = lines.as_slice().split_first() else {
-        return at_line(heap, file, 1, Err(Complaint::Words("no calendar line")));
-    };
-    let mut draft = at_line(
-        heap,
-        file,
-        first.number,
-        Draft::begin(rt, first.words.as_slice()),
-    )?;
+    let (first, rest) = first_of(&source, lines.as_slice(), "no calendar line")?;
+    let mut draft = source.at_line(first.number, Draft::begin(rt, first.words.as_slice()))?;
     for Line { number, words } in rest {
-        at_line(heap, file, *number, draft.take_line(heap, words.as_slice()))?;
+        source.at_line(*number, draft.take_line(heap, words.as_slice()))?;
     }
     Ok(draft.finish(heap)?)
 }

@@ -1,5 +1,5 @@
 // The lines of a sheet priced on the office's calendar, and their totals.
-use crate::failure::{Failure, said};
+use crate::failure::{Complaint, Failure, Source, said};
 use crate::figures::{Counted, Fixed, Points, RATE_PLACES};
 use crate::office::{OfficeCalendar, read_office};
 use crate::sheets::{Code, view};
@@ -49,6 +49,14 @@ impl fmt::Display for Total {
     }
 }
 
+// A value in words, or a dash where there is none.
+fn or_dash<T: fmt::Display + Drop>(heap: Global, value: Option<T>) -> Result<String, AllocError> {
+    match value {
+        Some(value) => format!(in heap; "{value}"),
+        None => String::from_str(heap, "-"),
+    }
+}
+
 // A sheet, and the calendar on which it is priced.
 #[derive(Clone, Copy)]
 struct Report<'a> {
@@ -74,18 +82,12 @@ impl Report<'_> {
     // The expiry and the reserve days to it, where there are any.
     fn term_words(&self, heap: Global, month: u32) -> Result<(String, String), AllocError> {
         let session = self.view.day();
-        let none = String::from_str(heap, "-")?;
-        match expiry(self.calendar, month) {
-            None => Ok((none, String::from_str(heap, "-")?)),
-            Some(day) => {
-                let date = format!(in heap; "{}", Day { number: day })?;
-                if day <= session {
-                    return Ok((date, none));
-                }
-                let days = count_reserve_days(self.calendar, session, day);
-                Ok((date, format!(in heap; "{days}")?))
-            }
-        }
+        let expiry = expiry(self.calendar, month);
+        let days = expiry
+            .filter(|day| *day > session)
+            .map(|day| count_reserve_days(self.calendar, session, day));
+        let date = expiry.map(|number| Day { number });
+        Ok((or_dash(heap, date)?, or_dash(heap, days)?))
     }
 
     // A line of the sheet.
@@ -119,7 +121,7 @@ impl Report<'_> {
     // The lines of the sheet.
     fn rows(&self, heap: Global) -> Result<String, AllocError> {
         let mut text = String::new(heap);
-        for (line, trade) in (0..self.view.count()).zip(self.view.trades()) {
+        for (line, trade) in self.view.trades().enumerate() {
             text.push_str(self.row(heap, line, trade)?.as_str())?;
         }
         Ok(text)
@@ -179,13 +181,11 @@ pub(crate) fn prices(rt: &HostRuntime, office: &str, file: &str) -> Result<Strin
     let heap = rt.alloc();
     let office = read_office(rt, office)?;
     let bytes = said(heap, read_from(file, fs::read(rt, file)))?;
-    let view = view(heap, file, bytes.as_slice())?;
-    let day = Day { number: view.day() };
-    if !office.calendar.kind(view.day()).is_session() {
-        return Err(Failure::About {
-            file: String::from_str(heap, file)?,
-            words: format!(in heap; "{day} is no session of the calendar")?,
-        });
+    let source = Source { heap, file };
+    let view = view(&source, bytes.as_slice())?;
+    let number = view.day();
+    if !office.calendar.kind(number).is_session() {
+        return source.about(Err(Complaint::NoSession(Day { number })));
     }
     let report = Report {
         calendar: &office.calendar,

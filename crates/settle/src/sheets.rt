@@ -1,13 +1,14 @@
 // Sheets as text and back.
-use crate::failure::{Complaint, Failure, at_line, said, told};
+use crate::failure::{Complaint, Failure, Source, said, told};
 use crate::figures::{Counted, Fixed, RATE_PLACES, day_of, decimal, number};
-use crate::texts::{Line, lines_of, read_from};
+use crate::texts::{Line, first_of, lines_of, read_from};
 use dates::Day;
 use sheet::{ContractCode, MOST_TRADES, SheetFault, SheetView, Trade, read, write};
 use std::alloc::{AllocError, Global};
 use std::{fmt, fs};
 
 // The count that a sheet's first bytes say.
+// Kept: 0 for fewer bytes is never shown, since their length is told first.
 fn count_said(bytes: &[u8]) -> u16 {
     match bytes {
         [low, high, ..] => u16::from_le_bytes([*low, *high]),
@@ -16,8 +17,8 @@ fn count_said(bytes: &[u8]) -> u16 {
 }
 
 // Why bytes are no sheet.
-#[derive(Clone, Copy)]
-struct FaultWords<'a> {
+#[derive(Clone, Copy, Debug)]
+pub(crate) struct FaultWords<'a> {
     bytes: &'a [u8],
     fault: SheetFault,
 }
@@ -46,17 +47,8 @@ impl fmt::Display for FaultWords<'_> {
 }
 
 // A view of the bytes of a sheet file.
-pub(crate) fn view<'a>(
-    heap: Global,
-    file: &str,
-    bytes: &'a [u8],
-) -> Result<SheetView<'a>, Failure> {
-    read(bytes).try_map_err(|fault| {
-        Ok(Failure::About {
-            file: String::from_str(heap, file)?,
-            words: format!(in heap; "{}", FaultWords { bytes, fault })?,
-        })
-    })
+pub(crate) fn view<'a>(source: &Source<'_>, bytes: &'a [u8]) -> Result<SheetView<'a>, Failure> {
+    source.about(read(bytes).map_err(|fault| Complaint::NoSheet(FaultWords { bytes, fault })))
 }
 
 // The code of a month, shown as nothing where it has none.
@@ -102,7 +94,7 @@ impl fmt::Display for TradeLine {
 pub(crate) fn show(rt: &HostRuntime, file: &str) -> Result<String, Failure> {
     let heap = rt.alloc();
     let bytes = said(heap, read_from(file, fs::read(rt, file)))?;
-    let view = view(heap, file, bytes.as_slice())?;
+    let view = view(&Source { heap, file }, bytes.as_slice())?;
     let day = Day { number: view.day() };
     let mut text = format!(in heap; "session {day}\n")?;
     for trade in view.trades() {
@@ -166,13 +158,12 @@ fn later_line<'a>(before: usize, words: &[&'a str]) -> Result<Trade, Complaint<'
     Ok(trade)
 }
 
-fn trades(heap: Global, file: &str, lines: &[Line]) -> Result<Vec<Trade>, Failure> {
-    let mut found = Vec::new(heap);
-    for Line { number, words } in lines {
-        let trade = later_line(found.len(), words.as_slice());
-        found.push(at_line(heap, file, *number, trade)?)?;
-    }
-    Ok(found)
+fn trades(source: &Source<'_>, lines: &[Line]) -> Result<Vec<Trade>, Failure> {
+    lines
+        .iter()
+        .enumerate()
+        .map(|(before, line)| source.at_line(line.number, later_line(before, line.words.as_slice())))
+        .try_collect(source.heap)
 }
 
 // The bytes of the sheet of these trades.
@@ -183,35 +174,22 @@ fn sheet_bytes(heap: Global, day: u16, trades: &[Trade]) -> Result<Vec<u8>, Comp
 }
 
 // How many trades a text describes, and the bytes of their sheet.
-fn sheet_of(heap: Global, file: &str, text: &str) -> Result<(usize, Vec<u8>), Failure> {
-    let lines = lines_of(heap, text)?;
-    let Some((first, rest)) = lines.as_slice().split_first() else {
-        return at_line(heap, file, 1, Err(Complaint::Words("no session line")));
-    };
-    let day = at_line(
-        heap,
-        file,
-        first.number,
-        session_day(first.words.as_slice()),
-    )?;
-    let trades = trades(heap, file, rest)?;
-    let bytes = at_line(
-        heap,
-        file,
-        first.number,
-        sheet_bytes(heap, day, trades.as_slice()),
-    )?;
-    Ok((trades.len(), bytes))
+fn sheet_of(source: &Source<'_>, text: &str) -> Result<(usize, Vec<u8>), Failure> {
+    let lines = lines_of(source.heap, text)?;
+    let (first, rest) = first_of(source, lines.as_slice(), "no session line")?;
+    let day = source.at_line(first.number, session_day(first.words.as_slice()))?;
+    let trades = trades(source, rest)?;
+    let bytes = sheet_bytes(source.heap, day, trades.as_slice());
+    Ok((trades.len(), source.at_line(first.number, bytes)?))
 }
 
 // Writes the sheet that a text describes.
 pub(crate) fn make(rt: &HostRuntime, text: &str, file: &str) -> Result<String, Failure> {
     let heap = rt.alloc();
     let lines = said(heap, read_from(text, fs::read_to_string(rt, text)))?;
-    let (count, bytes) = sheet_of(heap, text, lines.as_str())?;
-    if fs::write(rt, file, bytes.as_slice()).is_err() {
-        return said(heap, Err(Complaint::CannotWrite(file)));
-    }
+    let (count, bytes) = sheet_of(&Source { heap, file: text }, lines.as_str())?;
+    let written = fs::write(rt, file, bytes.as_slice());
+    said(heap, written.map_err(|_| Complaint::CannotWrite(file)))?;
     let trades = Counted {
         count: count as u64,
         one: "trade",

@@ -18,6 +18,7 @@ impl SessionTrades<'_> {
     }
 
     // The first contracts of a side at their prices, in order of acceptance.
+    // Kept: each trade gives of what those before it left; a fold would carry the same pair.
     fn first_units(&self, side: Side, count: u32, whose: AccountMonth) -> u64
         requires { count ≤ 5120000 }
         ensures value { result ≡ firsts side whose.account whose.month count self.now.trades.now }

@@ -14,6 +14,7 @@ pub enum DateError {
     NoSuchDate,
 }
 
+// Kept: a derived Display states no output, which pins the words.
 impl fmt::Display for DateError {
     ghost output = { λ e. Some (message e) };
 
