@@ -1,6 +1,8 @@
 // A settlement price carried over the reserve days of a gap, day by day.
 use crate::failure::{Complaint, Failure, said, told};
-use crate::figures::{Counted, DI_PLACES, FACTOR_PLACES, Fixed, PRICE_PLACES, Points, RATE_TOO_HIGH, day_of, decimal};
+use crate::figures::{
+    Counted, DI_PLACES, FACTOR_PLACES, Fixed, PRICE_PLACES, Points, RATE_TOO_HIGH, day_of, decimal,
+};
 use crate::office::{Office, read_office};
 use calendar::kind::Calendar;
 use calendar::span::count_reserve_days;

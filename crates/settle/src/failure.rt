@@ -56,7 +56,10 @@ pub(crate) enum Failure {
     },
     // about a file
     #[error("{file}: {words}")]
-    About { file: String, words: String },
+    About {
+        file: String,
+        words: String,
+    },
     #[error("out of memory")]
     Memory(#[from(alloc)] AllocError),
     #[error("cannot write standard output")]

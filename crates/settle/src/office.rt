@@ -5,7 +5,7 @@ ghost use Rattle.std.proofs.Common.{rules};
 
 use crate::failure::{Complaint, Failure, Source, said, told};
 use crate::figures::{DI_PLACES, day_of, decimal, number};
-use crate::texts::{Line, first_of, lines_of, read_from};
+use crate::texts::{Line, lines_of, read_from};
 use calendar::kind::{Calendar, DayKind};
 use calendar::marked::MarkedCalendar;
 use calendar::rule::{Exception, RuleCalendar};
@@ -195,7 +195,9 @@ pub(crate) fn read_office(rt: &HostRuntime, file: &str) -> Result<Office, Failur
     let source = Source { heap, file };
     let text = said(heap, read_from(file, fs::read_to_string(rt, file)))?;
     let lines = lines_of(heap, text.as_str())?;
-    let (first, rest) = first_of(&source, lines.as_slice(), "no calendar line")?;
+    let Some((first, rest)) = lines.as_slice().split_first() else {
+        return source.at_line(1, Err(Complaint::Words("no calendar line")));
+    };
     let mut draft = source.at_line(first.number, Draft::begin(rt, first.words.as_slice()))?;
     for Line { number, words } in rest {
         source.at_line(*number, draft.take_line(heap, words.as_slice()))?;

@@ -1,7 +1,7 @@
 // Sheets as text and back.
 use crate::failure::{Complaint, Failure, Source, said, told};
 use crate::figures::{Counted, Fixed, RATE_PLACES, day_of, decimal, number};
-use crate::texts::{Line, first_of, lines_of, read_from};
+use crate::texts::{Line, lines_of, read_from};
 use dates::Day;
 use sheet::{ContractCode, MOST_TRADES, SheetFault, SheetView, Trade, read, write};
 use std::alloc::{AllocError, Global};
@@ -162,7 +162,10 @@ fn trades(source: &Source<'_>, lines: &[Line]) -> Result<Vec<Trade>, Failure> {
     lines
         .iter()
         .enumerate()
-        .map(|(before, line)| source.at_line(line.number, later_line(before, line.words.as_slice())))
+        .map(|(before, line)| source.at_line(
+            line.number,
+            later_line(before, line.words.as_slice()),
+        ))
         .try_collect(source.heap)
 }
 
@@ -176,7 +179,9 @@ fn sheet_bytes(heap: Global, day: u16, trades: &[Trade]) -> Result<Vec<u8>, Comp
 // How many trades a text describes, and the bytes of their sheet.
 fn sheet_of(source: &Source<'_>, text: &str) -> Result<(usize, Vec<u8>), Failure> {
     let lines = lines_of(source.heap, text)?;
-    let (first, rest) = first_of(source, lines.as_slice(), "no session line")?;
+    let Some((first, rest)) = lines.as_slice().split_first() else {
+        return source.at_line(1, Err(Complaint::Words("no session line")));
+    };
     let day = source.at_line(first.number, session_day(first.words.as_slice()))?;
     let trades = trades(source, rest)?;
     let bytes = sheet_bytes(source.heap, day, trades.as_slice());

@@ -1,5 +1,5 @@
 // Text files as numbered lines of words.
-use crate::failure::{Complaint, Failure, Source};
+use crate::failure::Complaint;
 use std::alloc::{AllocError, Global};
 use std::io;
 
@@ -28,13 +28,4 @@ pub(crate) fn lines_of<'a>(heap: Global, text: &'a str) -> Result<Vec<Line<'a>>,
         }
     }
     Ok(lines)
-}
-
-// The first line and those after it, or that there is none.
-pub(crate) fn first_of<'b, 'a>(
-    source: &Source<'_>,
-    lines: &'b [Line<'a>],
-    missing: &'static str,
-) -> Result<(&'b Line<'a>, &'b [Line<'a>]), Failure> {
-    source.at_line(1, lines.split_first().ok_or(Complaint::Words(missing)))
 }
