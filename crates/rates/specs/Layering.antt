@@ -7,7 +7,7 @@ use Rattle.std.proofs.lemmas.Bool.Decides.{nat_tests}
 use Rattle.refusal.specs.Refusals.{first_row}
 use Rattle.rates.specs.declared.horizon.Horizon.{Horizon}
 use Rattle.rates.specs.declared.layer.Arbitrated.{Arbitrated}
-use Rattle.rates.specs.declared.layer.DayRate.{DayRate}
+use Rattle.rates.specs.declared.entry.DayRate.{DayRate}
 use Rattle.rates.specs.Horizons.{inside}
 use Rattle.rates.specs.Listed.{within_limit}
 use Rattle.rates.specs.Layers.{layered}

@@ -6,7 +6,7 @@ use Rattle.refusal.specs.declared.Refusal.TheVariants.{ArbitrationFull}
 use Rattle.refusal.specs.Refusals.{Row, first_row}
 use Rattle.rates.specs.declared.horizon.Horizon.{Horizon}
 use Rattle.rates.specs.declared.layer.Arbitrated.{Arbitrated}
-use Rattle.rates.specs.declared.layer.DayRate.{DayRate}
+use Rattle.rates.specs.declared.entry.DayRate.{DayRate}
 use Rattle.rates.specs.Horizons.{inside}
 use Rattle.rates.specs.Listed.{listed}
 use Rattle.rates.specs.Publishing.{day_rows, day_refusal, rate_row, Sets, Published}

@@ -3,7 +3,7 @@ use Rattle.std.specs.Prelude.{◌≡◌, ℕ, ◌+◌, ◌<◌, ◌≤◌, true,
 use Rattle.std.proofs.Common.{arith}
 use Rattle.std.proofs.lemmas.List.{at_drop_more, at_drop_all}
 use Rattle.std.proofs.lemmas.Bool.Decides.{nat_tests}
-use Rattle.rates.specs.declared.layer.DayRate.{DayRate}
+use Rattle.rates.specs.declared.entry.DayRate.{DayRate}
 use Rattle.rates.specs.Listed.{listed, within_limit}
 use Rattle.rates.specs.Layers.{or_else}
 

@@ -2,6 +2,7 @@
 // over any source. A rate is in whole millionths of a percent.
 #![tactic(auto)]
 
+pub mod entry;
 pub mod flat;
 pub mod horizon;
 pub mod layer;

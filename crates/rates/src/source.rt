@@ -5,6 +5,7 @@ ghost use Rattle.rates.specs.declared.horizon.Horizon.{Horizon};
 ghost use Rattle.rates.specs.Horizons.{inside};
 ghost use Rattle.rates.specs.Publishing.{day_refusal, Published};
 
+use crate::entry::DayRate;
 use crate::horizon::Horizon;
 use refusal::Refusal;
 
@@ -29,10 +30,9 @@ pub trait RateSource {
 }
 
 // A source that takes the rate of a day that has none.
-// Kept: day, rate and period are three parameters; a struct of them would be taken apart again by each row of the refusals.
 pub trait Publishing: RateSource {
-    fn publish(&mut self, day: u32, rate: u32, period: u32) -> Result<(), Refusal>
-        ensures { Published Self.RateSource.horizons Self.RateSource.rates self.old self.new day rate period result };
+    fn publish(&mut self, entry: DayRate, period: u32) -> Result<(), Refusal>
+        ensures { Published Self.RateSource.horizons Self.RateSource.rates self.old self.new entry.day entry.rate period result };
 }
 
 // Whether a day may be given a rate.

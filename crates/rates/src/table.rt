@@ -4,6 +4,7 @@ ghost use Rattle.rates.specs.Tables.{entry_rate};
 ghost use Rattle.rates.specs.TableSources.{table_horizon, table_rates};
 ghost use Rattle.std.proofs.Common.{rules};
 
+use crate::entry::DayRate;
 use crate::horizon::Horizon;
 use crate::source::{HIGHEST_RATE, Publishing, RateSource, check_day};
 use refusal::Refusal;
@@ -81,16 +82,16 @@ impl RateSource for TableSource {
 }
 
 impl Publishing for TableSource {
-    fn publish(&mut self, day: u32, rate: u32, period: u32) -> Result<(), Refusal> {
-        check_day(self, day)?;
-        if rate > HIGHEST_RATE {
+    fn publish(&mut self, entry: DayRate, period: u32) -> Result<(), Refusal> {
+        check_day(self, entry.day)?;
+        if entry.rate > HIGHEST_RATE {
             return Err(Refusal::RateTooHigh);
         }
         if period != 1 {
             return Err(Refusal::BadPeriod);
         }
-        let at = (day - self.first) as usize;
-        self.entries[at] = rate + 1;
+        let at = (entry.day - self.first) as usize;
+        self.entries[at] = entry.rate + 1;
         Ok(())
     }
 }

@@ -1,6 +1,7 @@
 // Sources at their edges, and a table under three layers.
 ghost use Rattle.std.specs.Prelude.{◌≡◌, true, is_some, Some};
 
+use crate::entry::DayRate;
 use crate::flat::FlatSource;
 use crate::horizon::Horizon;
 use crate::layer::Arbitrated;
@@ -49,7 +50,7 @@ fn table_days(rt: HostRuntime) -> Result<(), Fail> {
         (10, 99_999_999, 1, Ok(())),
         (10, 5, 1, Err(Refusal::HasRate)),
     ] {
-        assert_eq!(rt; source.publish(day, rate, period), expected);
+        assert_eq!(rt; source.publish(DayRate { day, rate }, period), expected);
     }
     assert_eq!(rt; source.rate(10), Some(99_999_999));
     Ok(())
@@ -67,12 +68,27 @@ fn sixteen_days(rt: HostRuntime) -> Result<(), Fail> {
     };
     let mut layer = Arbitrated::new(rt.alloc(), none).ok().ok_or("no memory")?;
     for day in 0..16 {
-        assert_eq!(rt; layer.arbitrate(day, 5), Ok(()));
+        assert_eq!(rt; layer.arbitrate(DayRate { day, rate: 5 }), Ok(()));
     }
-    assert_eq!(rt; layer.arbitrate(20, 5), Err(Refusal::OutsideHorizon));
-    assert_eq!(rt; layer.arbitrate(15, 5), Err(Refusal::HasRate));
-    assert_eq!(rt; layer.arbitrate(16, 100_000_000), Err(Refusal::RateTooHigh));
-    assert_eq!(rt; layer.arbitrate(16, 5), Err(Refusal::ArbitrationFull));
+    assert_eq!(rt;
+        layer.arbitrate(DayRate { day: 20, rate: 5 }),
+        Err(Refusal::OutsideHorizon)
+    );
+    assert_eq!(rt;
+        layer.arbitrate(DayRate { day: 15, rate: 5 }),
+        Err(Refusal::HasRate)
+    );
+    assert_eq!(rt;
+        layer.arbitrate(DayRate {
+            day: 16,
+            rate: 100_000_000
+        }),
+        Err(Refusal::RateTooHigh)
+    );
+    assert_eq!(rt;
+        layer.arbitrate(DayRate { day: 16, rate: 5 }),
+        Err(Refusal::ArbitrationFull)
+    );
     assert_eq!(rt; (layer.rate(15), layer.rate(16)), (Some(5), None));
     Ok(())
 }
@@ -81,7 +97,7 @@ fn sixteen_days(rt: HostRuntime) -> Result<(), Fail> {
 fn published<S: Publishing>(source: &mut S, day: u32, rate: u32) -> Option<u32>
     ensures { is_some result ≡ true → result ≡ Some rate }
 {
-    source.publish(day, rate, 1).ok()?;
+    source.publish(DayRate { day, rate }, 1).ok()?;
     source.rate(day)
 }
 
@@ -89,14 +105,23 @@ fn published<S: Publishing>(source: &mut S, day: u32, rate: u32) -> Option<u32>
 fn three_layers(rt: HostRuntime) -> Result<(), Fail> {
     let table = TableSource::empty(rt.alloc(), 100, 3)?;
     let mut inner = Arbitrated::new(rt.alloc(), table).ok().ok_or("no memory")?;
-    inner.arbitrate(101, 7)?;
+    inner.arbitrate(DayRate { day: 101, rate: 7 })?;
     let middle = Arbitrated::new(rt.alloc(), inner).ok().ok_or("no memory")?;
     let mut outer = Arbitrated::new(rt.alloc(), middle).ok().ok_or("no memory")?;
-    outer.arbitrate(102, 8)?;
+    outer.arbitrate(DayRate { day: 102, rate: 8 })?;
     assert_eq!(rt; published(&mut outer, 100, 6), Some(6));
-    assert_eq!(rt; outer.publish(101, 9, 1), Err(Refusal::HasRate));
-    assert_eq!(rt; outer.publish(102, 9, 1), Err(Refusal::HasRate));
-    assert_eq!(rt; outer.publish(103, 9, 1), Err(Refusal::OutsideHorizon));
+    assert_eq!(rt;
+        outer.publish(DayRate { day: 101, rate: 9 }, 1),
+        Err(Refusal::HasRate)
+    );
+    assert_eq!(rt;
+        outer.publish(DayRate { day: 102, rate: 9 }, 1),
+        Err(Refusal::HasRate)
+    );
+    assert_eq!(rt;
+        outer.publish(DayRate { day: 103, rate: 9 }, 1),
+        Err(Refusal::OutsideHorizon)
+    );
     assert_eq!(rt;
         (outer.rate(100), outer.rate(101), outer.rate(102)),
         (Some(6), Some(7), Some(8))

@@ -9,7 +9,8 @@ use crate::texts::{Line, lines_of, read_from};
 use calendar::kind::{Calendar, DayKind};
 use calendar::marked::MarkedCalendar;
 use calendar::rule::{Exception, RuleCalendar};
-use rates::layer::{Arbitrated, DayRate};
+use rates::entry::DayRate;
+use rates::layer::Arbitrated;
 use rates::source::Publishing;
 use rates::table::TableSource;
 use std::alloc::{AllocError, Global};
@@ -148,14 +149,14 @@ impl Draft {
 
     fn publish<'a>(&mut self, words: &[&'a str]) -> Result<(), Complaint<'a>> {
         let rates = self.rates_so_far()?;
-        let DayRate { day, rate } = day_rate("expected: rate DATE PERCENT", words)?;
-        Ok(rates.publish(day, rate, 1)?)
+        let entry = day_rate("expected: rate DATE PERCENT", words)?;
+        Ok(rates.publish(entry, 1)?)
     }
 
     fn arbitrate<'a>(&mut self, words: &[&'a str]) -> Result<(), Complaint<'a>> {
         let rates = self.rates_so_far()?;
-        let DayRate { day, rate } = day_rate("expected: arbitrate DATE PERCENT", words)?;
-        Ok(rates.arbitrate(day, rate)?)
+        let entry = day_rate("expected: arbitrate DATE PERCENT", words)?;
+        Ok(rates.arbitrate(entry)?)
     }
 
     // A line after the calendar line.

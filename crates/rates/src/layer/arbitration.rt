@@ -6,7 +6,8 @@ ghost use Rattle.rates.specs.Layers.{layer_horizon, layer_rates, by_layer, Layer
 ghost use Rattle.rates.specs.Layering.{layer-bounded};
 ghost use Rattle.std.proofs.Common.{rules, arith};
 
-use super::{Arbitrated, DayRate};
+use super::Arbitrated;
+use crate::entry::DayRate;
 use crate::horizon::Horizon;
 use crate::source::{HIGHEST_RATE, Publishing, RateSource, check_day};
 use refusal::Refusal;
@@ -78,50 +79,50 @@ impl<S: RateSource> Arbitrated<S> {
     }
 
     // Keeps the rate of a day that has none.
-    fn keep(&mut self, day: u32, rate: u32)
-        requires free { LayerDayFree S.RateSource.horizons S.RateSource.rates self.old day }
-        requires limit { rate ≤ 99999999 }
+    fn keep(&mut self, entry: DayRate)
+        requires free { LayerDayFree S.RateSource.horizons S.RateSource.rates self.old entry.day }
+        requires limit { entry.rate ≤ 99999999 }
         requires room { vec_len self.old.days < 16 }
         ensures below { self.new.below ≡ self.old.below }
-        ensures kept { self.new.days.items ≡ self.old.days.items ++ (record { day = day; rate = rate } ∷ []) }
-        ensures sets { Sets (layer_rates S.RateSource.horizons S.RateSource.rates self.old) day rate (layer_rates S.RateSource.horizons S.RateSource.rates self.new) }
+        ensures kept { self.new.days.items ≡ self.old.days.items ++ (entry ∷ []) }
+        ensures sets { Sets (layer_rates S.RateSource.horizons S.RateSource.rates self.old) entry.day entry.rate (layer_rates S.RateSource.horizons S.RateSource.rates self.new) }
     {
-        self.days.push_reserved(DayRate { day, rate });
+        self.days.push_reserved(entry);
     }
 
     // Sets the rate of a day that has none.
-    pub fn arbitrate(&mut self, day: u32, rate: u32) -> Result<(), Refusal>
-        ensures { Ruled S.RateSource.horizons S.RateSource.rates self.old self.new day rate result }
+    pub fn arbitrate(&mut self, entry: DayRate) -> Result<(), Refusal>
+        ensures { Ruled S.RateSource.horizons S.RateSource.rates self.old self.new entry.day entry.rate result }
     {
-        check_day(self, day)?;
-        if rate > HIGHEST_RATE {
+        check_day(self, entry.day)?;
+        if entry.rate > HIGHEST_RATE {
             return Err(Refusal::RateTooHigh);
         }
         if self.days.len() >= MOST_DAYS {
             return Err(Refusal::ArbitrationFull);
         }
-        self.keep(day, rate);
+        self.keep(entry);
         Ok(())
     }
 }
 
 impl<S: Publishing> Arbitrated<S> {
     // Publishes in the source below, for a day without a rate.
-    fn publish_below(&mut self, day: u32, rate: u32, period: u32) -> Result<(), Refusal>
-        requires { LayerDayFree S.RateSource.horizons S.RateSource.rates self.old day }
-        ensures published { LayerPublished S.RateSource.horizons S.RateSource.rates self.old self.new day rate period result }
+    fn publish_below(&mut self, entry: DayRate, period: u32) -> Result<(), Refusal>
+        requires { LayerDayFree S.RateSource.horizons S.RateSource.rates self.old entry.day }
+        ensures published { LayerPublished S.RateSource.horizons S.RateSource.rates self.old self.new entry.day entry.rate period result }
         ensures days { self.new.days ≡ self.old.days }
     {
-        self.below.publish(day, rate, period)
+        self.below.publish(entry, period)
     }
 }
 
 impl<S: Publishing> Publishing for Arbitrated<S> {
-    fn publish(&mut self, day: u32, rate: u32, period: u32) -> Result<(), Refusal>
-        ensures published { LayerPublished S.RateSource.horizons S.RateSource.rates self.old self.new day rate period result }
+    fn publish(&mut self, entry: DayRate, period: u32) -> Result<(), Refusal>
+        ensures published { LayerPublished S.RateSource.horizons S.RateSource.rates self.old self.new entry.day entry.rate period result }
         ensures days { self.new.days ≡ self.old.days }
     {
-        check_day(self, day)?;
-        self.publish_below(day, rate, period)
+        check_day(self, entry.day)?;
+        self.publish_below(entry, period)
     }
 }

@@ -7,7 +7,10 @@ use Rattle.rates.proofs.layer.Arbitrated.keep.Goals as goal
 pub invariant_of-self : goal.invariant_of-self
 invariant_of-self g c =
     let x = c.args.self.now in
-    record { few = omega arith; room = omega arith; limited = ap within_limit c.push_reserved.ensures.items ∙ limit-more (vec_items x.days) (record { day = c.args.day; rate = c.args.rate }) x.limited c.requires.limit }
+    record { few = omega arith; room = omega arith; limited = ap within_limit c.push_reserved.ensures.items ∙ limit-more (vec_items x.days) c.args.entry x.limited c.requires.limit }
 
 pub returns-clause-sets : goal.returns-clause-sets
-returns-clause-sets g c = search (rules, layer-more)
+returns-clause-sets g c =
+    let x = c.args.self.now in
+    let more = layer-more (g.S.RateSource.horizons x.below) (g.S.RateSource.rates x.below) (vec_items x.days) c.args.entry.day c.args.entry.rate c.requires.free in
+    search (rules, more)

@@ -11,9 +11,9 @@ returns-clause-published g c =
     record {
       answers =
           done.answers
-          ∙ layer-answers (horizons x.below) (rates x.below) (vec_items x.days) c.args.day c.args.rate c.args.period c.requires;
+          ∙ layer-answers (horizons x.below) (rates x.below) (vec_items x.days) c.args.entry.day c.args.entry.rate c.args.period c.requires;
       refused = λ no. same-layer x _ _ _ _ (done.refused no);
       horizon_stays = done.horizon_stays;
       accepted =
-          λ yes. layer-published _ _ _ _ (vec_items x.days) c.args.day c.args.rate done.horizon_stays c.requires (done.accepted yes);
+          λ yes. layer-published _ _ _ _ (vec_items x.days) c.args.entry.day c.args.entry.rate done.horizon_stays c.requires (done.accepted yes);
     }
