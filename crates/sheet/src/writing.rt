@@ -2,8 +2,8 @@
 ghost use Rattle.std.specs.Prelude.{◌≡◌, ◌+◌, ◌*◌, ◌<◌, ◌≤◌, true, ◌++◌, length, drop, Decides, IfSome, MatchOption, MatchResult};
 ghost use Rattle.std.proofs.Props.{props};
 ghost use Rattle.std.specs.List.{flat_map, AllByRecursion};
-ghost use Rattle.sheet.specs.Codes.{last_month};
-ghost use Rattle.sheet.specs.Sheet.{sides, terms, sheet_bytes, FitsLine, Listable, Valid, Unwritten};
+ghost use Rattle.sheet.specs.Codes.{code_bytes, last_month};
+ghost use Rattle.sheet.specs.Sheet.{little, sides, terms, sheet_bytes, FitsLine, Listable, Valid, Unwritten};
 
 use crate::code::ContractCode;
 use crate::trade::{MOST_TRADES, Trade, WriteFault};
@@ -62,7 +62,13 @@ impl<'a> ListedTrades<'a> {
         for (line, trade) in self.trades.iter().enumerate() {
             let (side, term) = (2 * line, 14 * line);
             side_rows[side..side + 2].copy_from_slice(&[trade.buyer, trade.seller]);
-            write_terms(*trade, &mut term_rows[term..term + 14]);
+            let code = ContractCode::new(trade.month).unwrap();
+            write_terms(
+                code,
+                trade.rate,
+                trade.quantity,
+                &mut term_rows[term..term + 14],
+            );
         }
     }
 }
@@ -84,13 +90,11 @@ fn is_coded(trade: Trade) -> bool
 }
 
 // Writes the terms of a trade.
-fn write_terms(trade: Trade, out: &mut [u8])
-    requires room { length out.old ≡ 14 }
-    requires coded { trade.month ≤ last_month }
-    ensures { out.new ≡ terms trade }
+fn write_terms(code: ContractCode, rate: u32, quantity: u32, out: &mut [u8])
+    requires { length out.old ≡ 14 }
+    ensures { out.new ≡ code_bytes code.month ++ (little 4 rate ++ little 4 quantity) }
 {
-    let code = ContractCode::new(trade.month).unwrap();
     out[0..6].copy_from_slice(&code.bytes());
-    out[6..10].copy_from_slice(&trade.rate.to_le_bytes());
-    out[10..14].copy_from_slice(&trade.quantity.to_le_bytes());
+    out[6..10].copy_from_slice(&rate.to_le_bytes());
+    out[10..14].copy_from_slice(&quantity.to_le_bytes());
 }
