@@ -64,11 +64,8 @@ impl ContractCode {
         ensures ones { (result.2 ≡ self.now.month / 12 % 10) × (result.2 < 10) }
     {
         let year = self.month / 12;
-        (
-            letter(self.month % 12).unwrap(),
-            (year / 10) as u8,
-            (year % 10) as u8,
-        )
+        let letter = letter(self.month % 12).unwrap();
+        (letter, (year / 10) as u8, (year % 10) as u8)
     }
 }
 

@@ -1,8 +1,9 @@
 // A trade sheet written into an array.
-ghost use Rattle.std.specs.Prelude.{◌≡◌, ◌+◌, ◌*◌, ◌<◌, ◌≤◌, true, ◌++◌, length, drop, Decides, MatchResult};
+ghost use Rattle.std.specs.Prelude.{◌≡◌, ◌+◌, ◌*◌, ◌<◌, ◌≤◌, true, ◌++◌, length, drop, Decides, IfSome, MatchOption, MatchResult};
+ghost use Rattle.std.proofs.Props.{props};
 ghost use Rattle.std.specs.List.{flat_map, AllByRecursion};
-ghost use Rattle.sheet.specs.Codes.{last_month};
-ghost use Rattle.sheet.specs.Sheet.{sides, terms, sheet_bytes, FitsLine, Valid, Unwritten};
+ghost use Rattle.sheet.specs.Codes.{code_bytes, last_month};
+ghost use Rattle.sheet.specs.Sheet.{little, sides, terms, sheet_bytes, FitsLine, Listable, Valid, Unwritten};
 
 use crate::code::ContractCode;
 use crate::trade::{MOST_TRADES, Trade, WriteFault};
@@ -17,13 +18,11 @@ pub fn write(day: u16, trades: &[Trade], out: &mut [u8]) -> Result<usize, WriteF
     if is_short(out.len(), count) {
         return Err(WriteFault::Short);
     }
-    if count > MOST_TRADES as usize || !are_coded(trades) {
-        return Err(WriteFault::BadSheet);
-    }
+    let listed = ListedTrades::new(trades).ok_or(WriteFault::BadSheet)?;
     let end = 4 + 16 * count;
     out[0..2].copy_from_slice(&(count as u16).to_le_bytes());
     out[2..4].copy_from_slice(&day.to_le_bytes());
-    write_rows(trades, &mut out[4..end]);
+    listed.write_rows(&mut out[4..end]);
     Ok(end)
 }
 
@@ -32,6 +31,46 @@ fn is_short(room: usize, count: usize) -> bool
     ensures { Decides result (room < 4 + 16 * count) }
 {
     room < 4 || (room - 4) / 16 < count
+}
+
+// The trades of a sheet: few enough, and each in a month that has a code.
+#[derive(Clone, Copy)]
+struct ListedTrades<'a> {
+    trades: &'a [Trade],
+    ghost listable: { Listable trades.now } by { Prim.hlevel props },
+}
+
+impl<'a> ListedTrades<'a> {
+    // The trades, if they make a sheet.
+    fn new(trades: &'a [Trade]) -> Option<ListedTrades<'a>>
+        ensures value { MatchOption result (¬ Listable trades.now) (λ t. t.trades.now ≡ trades.now) }
+        ensures fits { IfSome result (λ _. AllByRecursion FitsLine trades.now) }
+    {
+        if trades.len() > MOST_TRADES as usize || !are_coded(trades) {
+            return None;
+        }
+        Some(ListedTrades { trades })
+    }
+
+    // Writes the sides of each trade, and behind them the terms of each.
+    // Kept: of what is written through chunks_exact_mut a proof knows the length alone.
+    fn write_rows(&self, rows: &mut [u8])
+        requires { length rows.old ≡ 16 * length self.now.trades.now }
+        ensures { rows.new ≡ flat_map sides self.now.trades.now ++ flat_map terms self.now.trades.now }
+    {
+        let (side_rows, term_rows) = rows.split_at_mut(2 * self.trades.len());
+        for (line, trade) in self.trades.iter().enumerate() {
+            let (side, term) = (2 * line, 14 * line);
+            side_rows[side..side + 2].copy_from_slice(&[trade.buyer, trade.seller]);
+            let code = ContractCode::new(trade.month).unwrap();
+            write_terms(
+                code,
+                trade.rate,
+                trade.quantity,
+                &mut term_rows[term..term + 14],
+            );
+        }
+    }
 }
 
 // Whether the month of each trade has a code.
@@ -50,28 +89,12 @@ fn is_coded(trade: Trade) -> bool
     ContractCode::new(trade.month).is_some()
 }
 
-// Writes the sides of each trade, and behind them the terms of each.
-fn write_rows(trades: &[Trade], rows: &mut [u8])
-    requires room { length rows.old ≡ 16 * length trades.now }
-    requires coded { AllByRecursion (λ t. t.month ≤ last_month) trades.now }
-    ensures { rows.new ≡ flat_map sides trades.now ++ flat_map terms trades.now }
-{
-    let (side_rows, term_rows) = rows.split_at_mut(2 * trades.len());
-    for (line, trade) in trades.iter().enumerate() {
-        let (side, term) = (2 * line, 14 * line);
-        side_rows[side..side + 2].copy_from_slice(&[trade.buyer, trade.seller]);
-        write_terms(*trade, &mut term_rows[term..term + 14]);
-    }
-}
-
 // Writes the terms of a trade.
-fn write_terms(trade: Trade, out: &mut [u8])
-    requires room { length out.old ≡ 14 }
-    requires coded { trade.month ≤ last_month }
-    ensures { out.new ≡ terms trade }
+fn write_terms(code: ContractCode, rate: u32, quantity: u32, out: &mut [u8])
+    requires { length out.old ≡ 14 }
+    ensures { out.new ≡ code_bytes code.month ++ (little 4 rate ++ little 4 quantity) }
 {
-    let code = ContractCode::new(trade.month).unwrap();
     out[0..6].copy_from_slice(&code.bytes());
-    out[6..10].copy_from_slice(&trade.rate.to_le_bytes());
-    out[10..14].copy_from_slice(&trade.quantity.to_le_bytes());
+    out[6..10].copy_from_slice(&rate.to_le_bytes());
+    out[10..14].copy_from_slice(&quantity.to_le_bytes());
 }

@@ -1,5 +1,5 @@
 // The frame of a sheet: its head, and the bytes of its lines.
-ghost use Rattle.std.specs.Prelude.{◌≡◌, ℕ, ◌<◌, length, Decides, Option, MatchOption, MatchResult};
+ghost use Rattle.std.specs.Prelude.{◌≡◌, ℕ, ◌<◌, Decides, Option, MatchOption, MatchResult};
 ghost use Rattle.sheet.specs.Codes.{IsCode};
 ghost use Rattle.sheet.specs.Sheet.{Framed, Refused, count_of, day_of, code_of, sides_at, terms_at};
 
@@ -39,23 +39,21 @@ impl<'a> Frame<'a> {
     }
 
     // The sides of a line.
-    pub(super) fn sides(&self, line: usize) -> &'a [u8]
+    pub(super) fn sides(&self, line: usize) -> [u8; 2]
         requires { line < self.now.count }
-        ensures value { result.now ≡ sides_at self.now.bytes.now line }
-        ensures length { length result.now ≡ 2 }
+        ensures { result ≡ sides_at self.now.bytes.now line }
     {
         let from = 4 + 2 * line;
-        &self.bytes[from..from + 2]
+        array_of(&self.bytes[from..from + 2])
     }
 
     // The terms of a line, behind the sides of all lines.
-    pub(super) fn terms(&self, line: usize) -> &'a [u8]
+    pub(super) fn terms(&self, line: usize) -> [u8; 14]
         requires { line < self.now.count }
-        ensures value { result.now ≡ terms_at self.now.count self.now.bytes.now line }
-        ensures length { length result.now ≡ 14 }
+        ensures { result ≡ terms_at self.now.count self.now.bytes.now line }
     {
         let from = 4 + 2 * self.count as usize + 14 * line;
-        &self.bytes[from..from + 14]
+        array_of(&self.bytes[from..from + 14])
     }
 
     // The first line whose code is none.

@@ -1,5 +1,5 @@
 // What a sheet says: its day, how many trades, and each trade.
-ghost use Rattle.std.specs.Prelude.{◌≡◌, ◌+◌, ◌*◌, ◌^◌, ◌<◌, ◌≤◌, length, take, None, MatchOption};
+ghost use Rattle.std.specs.Prelude.{◌≡◌, ◌+◌, ◌*◌, ◌^◌, ◌<◌, ◌≤◌, take, None, MatchOption};
 ghost use Rattle.std.specs.List.{slice_get};
 ghost use Rattle.sheet.specs.Codes.{NoCode};
 ghost use Rattle.sheet.specs.Sheet.{terms_at, trade_from};
@@ -39,15 +39,14 @@ impl SheetView<'_> {
 }
 
 // The trade that its sides and its terms say, if the code is one.
-fn trade_from(sides: &[u8], terms: &[u8]) -> Option<Trade>
-    requires sides { length sides.now ≡ 2 }
-    requires terms { length terms.now ≡ 14 }
-    ensures { MatchOption result (NoCode (take 6 terms.now)) (λ t. t ≡ trade_from sides.now terms.now) }
+fn trade_from(sides: [u8; 2], terms: [u8; 14]) -> Option<Trade>
+    ensures { MatchOption result (NoCode (take 6 terms)) (λ t. t ≡ trade_from sides terms) }
 {
     let code = ContractCode::from_bytes(&terms[0..6])?;
+    let [buyer, seller] = sides;
     Some(Trade {
-        buyer: sides[0],
-        seller: sides[1],
+        buyer,
+        seller,
         month: code.month(),
         rate: u32::from_le_bytes(array_of(&terms[6..10])),
         quantity: u32::from_le_bytes(array_of(&terms[10..14])),

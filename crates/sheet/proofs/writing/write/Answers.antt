@@ -1,11 +1,17 @@
-use Rattle.std.proofs.Common.{refl, ◌∙◌, arith}
+use Rattle.std.proofs.Common.{◌≡◌, ◌++◌, ◌∙◌, refl, subst, arith, rules}
+use Rattle.std.specs.List.{flat_map, AllByRecursion}
+use Rattle.sheet.specs.Sheet.{sides, terms, FitsLine, Listable}
 use Rattle.sheet.proofs.SheetLaws.{sheet-put}
 use Rattle.sheet.proofs.writing.write.Goals as goal
 
 pub returns : goal.returns
-returns c = (
-  omega arith,
-  (omega arith, (omega arith, c.if-not-are_coded.ensures.coded.0 refl), c.if-not-are_coded.ensures.fits refl),
-  sheet-put c.args.day c.args.trades.now c.args.out.now c.copy_from_slice.new.self c.copy_from_slice-2.new.self c.write_rows.new.rows
-      (c.copy_from_slice.ensures.after ∙ c.to_le_bytes.ensures) (c.copy_from_slice-2.ensures.after ∙ c.to_le_bytes-2.ensures) c.write_rows.ensures,
-)
+returns c =
+    let ts = c.args.trades.now in
+    let e : c.in_ok-listed.listed.trades.now ≡ ts = search rules in
+    let f : AllByRecursion FitsLine ts = search rules in
+    let r : c.write_rows.new.rows ≡ flat_map sides ts ++ flat_map terms ts = let w = c.write_rows.ensures in cc in (
+      refl,
+      (omega (arith, c.ranges.day.fits), subst Listable e c.in_ok-listed.listed.listable, f),
+      sheet-put c.args.day ts c.args.out.now c.copy_from_slice.new.self c.copy_from_slice-2.new.self c.write_rows.new.rows
+          (c.copy_from_slice.ensures.after ∙ c.to_le_bytes.ensures) (c.copy_from_slice-2.ensures.after ∙ c.to_le_bytes-2.ensures) r,
+    )

@@ -16,10 +16,10 @@ returns-clause-value c =
     let b = f.bytes.now in
     let i = c.args.line in
     let n = f.counted in
-    let s : c.sides.result.now ≡ sides_at b i = c.sides.ensures.value in
-    let t : c.terms.result.now ≡ terms_at f.count b i = c.terms.ensures.value in
-    let e : code_of b i ≡ take 6 c.terms.result.now = cc in
+    let s : c.sides.result ≡ sides_at b i = c.sides.ensures in
+    let t : c.terms.result ≡ terms_at f.count b i = c.terms.ensures in
+    let e : code_of b i ≡ take 6 c.terms.result = cc in
     trade-found _ c.trade_from.result _ c.trade_from.ensures (subst IsCode e (c.args.self.now.coded i (omega (arith, c.count.ensures.value.0, c.if-line-count.false))))
-    ∙ ap (λ (x : List ℕ). Some (trade_from x c.terms.result.now)) s
+    ∙ ap (λ (x : List ℕ). Some (trade_from x c.terms.result)) s
     ∙ ap (λ (x : List ℕ). Some (trade_from (sides_at b i) x)) t
     ∙ sym (line_at f.count b i (omega (arith, c.count.ensures.value.0, c.if-line-count.false)))
