@@ -16,7 +16,7 @@ use Rattle.model.proofs.Valuing.{AllRightly, all_right}
 
 first-none : (xs : List ℕ) → first_in xs ≡ None → xs ≡ []
 first-none [] e = refl
-first-none (x ∷ xs) e = absurd (let z : ◌≡◌ {A = ℕ} 0 1 = cc in omega arith)
+first-none (x ∷ xs) e = absurd cc
 
 -- days that have rates, and more such days
 rated-append : (rates : ℕ → Option ℕ) (xs ys : List ℕ) → first_unrated rates xs ≡ None → first_unrated rates ys ≡ None → first_unrated rates (xs ++ ys) ≡ None

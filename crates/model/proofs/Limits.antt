@@ -3,13 +3,13 @@ use Rattle.std.proofs.Common.{◌≡◌, ℕ, ◌<◌, ◌≤◌, Bool, true, fa
 use borrow.Author.Differences.{ints}
 use Rattle.std.specs.List.{AllByRecursion}
 use Rattle.std.proofs.lemmas.List.{append-nil, length_push, get_or_append_left}
-use Rattle.std.proofs.lemmas.Bool.{cases_lt, eqb-true, lt-ltb, le-ltb, leb-false, lt-leb, and_left}
+use Rattle.std.proofs.lemmas.Bool.{cases_lt, eqb-true, lt-ltb, le-ltb, leb-false, lt-leb, and_left, cond_both}
 use Rattle.pricing.specs.Pricing.{expiry_day}
 use Rattle.settlement.specs.declared.trades.Trade.{Trade}
 use Rattle.settlement.specs.Trades.{contracts_of, position_change}
 use Rattle.settlement.proofs.Totals.{total-append}
 use Rattle.model.specs.World.{World}
-use Rattle.model.specs.History.{History, Entered, Listed, Published, Arbitrated, Opened, Traded, Marked, Closed, Paid, traded, gather}
+use Rattle.model.specs.History.{History, Listed, Traded, Closed, traded, gather}
 use Rattle.model.specs.Observed.{months_of}
 use Rattle.model.specs.Sessions.{Session, closed_with, sessions_of, has_reached}
 use Rattle.model.specs.Positions.{has_ended, position_of}
@@ -22,8 +22,7 @@ Within p = nat_abs p ≤ 500000
 
 -- 0, or what is within
 pub cond-within : (b : Bool) (p : ℤ) → Within p → Within (cond b (pos 0) p)
-cond-within true p k = omega (arith, ints)
-cond-within false p k = k
+cond-within b p k = cond_both b (pos 0) p Within (λ _. omega (arith, ints)) (λ _. k)
 
 -- a trade: its buyer and its seller stay within, and nobody else has contracts of it
 trade-within : (held : ℕ → ℕ → ℤ) (a m : ℕ) (t : Trade) → (t.buyer ≡ t.seller → ⊥)
@@ -118,22 +117,17 @@ still w h a m k =
 
 pub positions-limited : PositionsLimited
 positions-limited w [] a m l = cond-within (has_ended w [] m) (pos 0) (omega (arith, ints))
-positions-limited w (Entered x ∷ h) a m l = still w h a m (positions-limited w h a m l.1)
 positions-limited w (Listed n ∷ h) a m l =
     quiet w h a m (months_of h ++ n ∷ []) (sessions_of w h)
     (listing-within w m (months_of h) (sessions_of w h) (position_change a m (gather traded h)) (positions-limited w h a m l.1) n)
-positions-limited w (Published d r ∷ h) a m l = still w h a m (positions-limited w h a m l.1)
-positions-limited w (Arbitrated d r ∷ h) a m l = still w h a m (positions-limited w h a m l.1)
-positions-limited w (Opened d ∷ h) a m l = still w h a m (positions-limited w h a m l.1)
 positions-limited w (Traded t ∷ h) a m l =
     let r = trading w h t l.0 in
     let k = positions-limited w h a m l.1 in
     subst (λ x. Within (held_by w m (months_of h ++ []) (sessions_of w h) x)) (one_more a m (gather traded h) t)
     (trading-within w m (months_of h) (sessions_of w h) (position_change a m (gather traded h)) k (contracts_of a m t)
     (trade-within (position_of w h) a m t r.apart r.buyer-limit r.seller-limit k))
-positions-limited w (Marked x p ∷ h) a m l = still w h a m (positions-limited w h a m l.1)
 positions-limited w (Closed c ∷ h) a m l =
     quiet w h a m (months_of h ++ []) (sessions_of w (Closed c ∷ h))
     (closing-within w m (months_of h) (sessions_of w h) (position_change a m (gather traded h)) (positions-limited w h a m l.1) (closed_with w h c)
     (falling w (Closed c ∷ h) l).0)
-positions-limited w (Paid ∷ h) a m l = still w h a m (positions-limited w h a m l.1)
+positions-limited w (e ∷ h) a m l = still w h a m (positions-limited w h a m l.1)

@@ -1,6 +1,8 @@
 -- What amounts are multiplied by: products of factors and powers of 10^8 over joined ranges of days.
 use Rattle.std.proofs.Common.{◌≡◌, ℕ, zero, suc, ◌+◌, ◌-◌, ◌*◌, ◌^◌, ◌<◌, ◌≤◌, Bool, true, false, cond, List, [], ◌∷◌, ◌++◌, length, sum_by, Option, sym, refl, ap, ◌∙◌, mul_assoc, add-mul, one-mul, pow-suc, mul-zero, zero-mul, mul-one, add-one, arith, pow-add}
-use Rattle.std.specs.List.{AllByRecursion}
+use Rattle.std.specs.List.{range_with_len, AllByRecursion}
+use Rattle.std.proofs.ByRecursion.{All-from_get_or, all_kept_by}
+use Rattle.std.proofs.lemmas.List.FromFn.{length-range_with_len, get_or-range_with_len}
 use Rattle.std.proofs.lemmas.List.{map-append, length-append}
 use Rattle.std.proofs.lemmas.List.Sums.{sum_by-cons}
 use Rattle.calendar.specs.declared.kind.DayKind.{DayKind}
@@ -18,35 +20,22 @@ product-append (x ∷ xs) ys = ap (λ p. x * p) (product-append xs ys) ∙ sym (
 -- sums that agree on each element
 pub sums_same : {X : Type 0} (f g : X → ℕ) (xs : List X) → AllByRecursion (λ x. f x ≡ g x) xs → sum_by f xs ≡ sum_by g xs
 sums_same f g [] h = refl
-sums_same f g (x ∷ xs) h =
-    sum_by-cons f x xs ∙ ap (λ n. n + sum_by f xs) h.0 ∙ ap (λ n. g x + n) (sums_same f g xs h.1) ∙ sym (sum_by-cons g x xs)
+sums_same f g (x ∷ xs) h = omega (arith, sum_by-cons f x xs, sum_by-cons g x xs, h.0, sums_same f g xs h.1)
 
 pub sums-times : {X : Type 0} (f : X → ℕ) (k : ℕ) (xs : List X) → sum_by (λ x. f x * k) xs ≡ sum_by f xs * k
 sums-times f k [] = sym (zero-mul k)
 sums-times f k (x ∷ xs) =
-    sum_by-cons (λ x. f x * k) x xs ∙ ap (λ n. f x * k + n) (sums-times f k xs)
-    ∙ sym (add-mul (f x) (sum_by f xs) k) ∙ ap (λ n. n * k) (sym (sum_by-cons f x xs))
+    rw (sum_by-cons (λ x. f x * k) x xs, sum_by-cons f x xs, add-mul (f x) (sum_by f xs) k) (omega (arith, sums-times f k xs))
 
 module _ (kinds : ℕ → DayKind) where
-  wider : (from to : ℕ) (ds : List ℕ) → AllByRecursion (λ d. (from + 1 ≤ d) × (d < to)) ds → AllByRecursion (λ d. (from ≤ d) × (d < to)) ds
-  wider from to [] a = tt
-  wider from to (d ∷ ds) a = ((let l = a.0.0 in omega arith, a.0.1), wider from to ds a.1)
-
-  within_more : (b : Bool) (from to : ℕ) (ds : List ℕ) → from < to → AllByRecursion (λ d. (from + 1 ≤ d) × (d < to)) ds
-      → AllByRecursion (λ d. (from ≤ d) × (d < to)) (cond b (from ∷ ds) ds)
-  within_more true from to ds h a = ((omega arith, h), wider from to ds a)
-  within_more false from to ds h a = wider from to ds a
-
-  within_by : (n from to : ℕ) → to - from ≡ n → AllByRecursion (λ d. (from ≤ d) × (d < to)) (reserve_days kinds from to)
-  within_by zero from to e = rw (days-none is_reserve kinds from to (omega arith)) tt
-  within_by (suc n) from to e =
-      let l : from < to = omega arith in
-      rw (days-head is_reserve kinds from to l)
-      (within_more (is_reserve (kinds from)) from to (days_by is_reserve kinds (from + 1) to) l (within_by n (from + 1) to (omega arith)))
-
   -- the reserve days of a range stand in it
   pub days-within : (from to : ℕ) → AllByRecursion (λ d. (from ≤ d) × (d < to)) (reserve_days kinds from to)
-  days-within from to = within_by (to - from) from to refl
+  unfolding days_by
+  days-within from to =
+      let days = range_with_len from (to - from) in
+      all_kept_by (λ d. is_reserve (kinds d)) (λ d. (from ≤ d) × (d < to)) days
+      (All-from_get_or (λ d. (from ≤ d) × (d < to)) days 0 (λ i l. let k : i < to - from = omega (arith, length-range_with_len from (to - from)) in
+      rw (get_or-range_with_len from (to - from) i 0 k) (omega arith, omega arith)))
 
 module _ (kinds : ℕ → DayKind) (rates : ℕ → Option ℕ) where
   -- the product of the factors of a range

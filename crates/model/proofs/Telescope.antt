@@ -1,5 +1,6 @@
 -- The value of trades against the adjustments of their sessions: session after session, all but the rounding cancels.
 use Rattle.std.proofs.Common.{◌≡◌, ℕ, ◌+◌, ◌*◌, ◌^◌, ◌<◌, ◌≤◌, cond, List, [], ◌∷◌, length, ℤ, pos, ◌+ℤ◌, ◌-ℤ◌, ◌*ℤ◌, nat_abs, sum_by, Option, sym, refl, ap, ◌∙◌, subst, mul_assoc, mul_comm, mul-le-mul_left, arith}
+use mathlib.Core.Path.{fun_ext}
 use lib.IntN.{+ℤ_idr, zero-*ℤ}
 use borrow.Author.Differences.{ints}
 use Rattle.std.specs.List.{AllByRecursion}
@@ -22,6 +23,7 @@ use Rattle.model.specs.World.{World}
 use Rattle.model.specs.Sessions.{Session, up_to, oldest_day}
 use Rattle.model.specs.Positions.{contracts_in, corrected_to}
 use Rattle.model.specs.Value.{scale_of, adjustments_over, value_over, held_on, held_over, NearFrom}
+use Rattle.model.proofs.Cells.{gain-none}
 use Rattle.model.proofs.Falling.{Falling}
 use Rattle.model.proofs.Scales.{sums_same, sums-times, days-within, growth, unit, unit-split, scale-on, scale-here, days-drift}
 
@@ -50,14 +52,8 @@ module _ (a m : ℕ) where
 
   on-trades : (p : ℕ) (ts : List Trade) → on_trades a m p ts ≡ position_change a m ts *ℤ pos p -ℤ cost_of ts *ℤ pos 1
   unfolding on_trades gain_of
-  on-trades p ts = each ts ∙ trades-split (pos p) (pos 1) ts
-    where
-      each : (ts : List Trade)
-          → total (λ t. contracts_of a m t *ℤ (pos p -ℤ pos t.price)) ts ≡ total (λ t. contracts_of a m t *ℤ (pos p -ℤ pos t.price *ℤ pos 1)) ts
-      each [] = refl
-      each (t ∷ ts) =
-          ap (λ z. contracts_of a m t *ℤ z +ℤ total (λ t. contracts_of a m t *ℤ (pos p -ℤ pos t.price)) ts) (by_one (pos t.price) (pos p))
-          ∙ ap (λ z. contracts_of a m t *ℤ (pos p -ℤ pos t.price *ℤ pos 1) +ℤ z) (each ts)
+  on-trades p ts =
+      ap (λ f. total (λ t. contracts_of a m t *ℤ f t) ts) (fun_ext (λ t. by_one (pos t.price) (pos p))) ∙ trades-split (pos p) (pos 1) ts
 
   -- ---- many sessions
   -- the cost of the trades, carried
@@ -152,10 +148,6 @@ module _ (w : World) (rates : ℕ → Option ℕ) (a m : ℕ) where
         2 * nat_abs (adjustments_over (scale s.day) a m (s ∷ ss) -ℤ value_over (scale s.day) (s.prices m * scale s.day s.day) a m (s ∷ ss))
         ≤ held_over (scale s.day) a m (s ∷ ss) (reserve_days w.kinds first s.day)
 
-    carried_none : (p : ℕ) → gain_of (pos 0) p 0 ≡ pos 0
-    unfolding gain_of
-    carried_none p = zero-*ℤ (pos p -ℤ pos 0)
-
     start : (s : Session) → Adjusted s [] → Close s []
     start s h =
         let k = scale s.day s.day in
@@ -163,7 +155,7 @@ module _ (w : World) (rates : ℕ → Option ℕ) (a m : ℕ) where
         let p = s.prices m in
         let c = cost_of a m s.trades in
         let cell : s.amounts.adjustments a m ≡ t *ℤ pos p -ℤ c *ℤ pos 1 +ℤ pos 0 =
-        h ∙ ap (λ z. z +ℤ gain_of (pos 0) p 0) (on-trades a m p s.trades) ∙ ap (λ z. t *ℤ pos p -ℤ c *ℤ pos 1 +ℤ z) (carried_none p) in
+        h ∙ ap (λ z. z +ℤ gain_of (pos 0) p 0) (on-trades a m p s.trades) ∙ ap (λ z. t *ℤ pos p -ℤ c *ℤ pos 1 +ℤ z) (gain-none p 0) in
         let v = value-split a m (scale s.day) (p * k) (s ∷ []) in
         let e : adjustments_over (scale s.day) a m (s ∷ []) -ℤ value_over (scale s.day) (p * k) a m (s ∷ []) ≡ pos 0 =
         ap (λ z. (z *ℤ pos k +ℤ pos 0) -ℤ value_over (scale s.day) (p * k) a m (s ∷ [])) cell
