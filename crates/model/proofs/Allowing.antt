@@ -1,6 +1,7 @@
 -- What the rules have seen where they accept an event.
-use Rattle.std.proofs.Common.{◌≡◌, ℕ, ◌<◌, ◌≤◌, Bool, true, false, cond, not, ◌&&◌, eqb, ltb, leb, List, [], ◌∷◌, length, pos, ◌+ℤ◌, ◌-ℤ◌, nat_abs, is_some as option_is_some, Some, None, Option, unwrap_or, refl, ap}
+use Rattle.std.proofs.Common.{◌≡◌, ℕ, ◌<◌, ◌≤◌, Bool, true, false, cond, not, ◌&&◌, eqb, ltb, leb, List, [], ◌∷◌, length, pos, ◌+ℤ◌, ◌-ℤ◌, nat_abs, is_some as option_is_some, Some, None, Option, unwrap_or, refl, ap, arith}
 use Rattle.std.proofs.lemmas.Bool.{true≢false, not-false, ltb-true, ltb-false, leb-false, eqb-false, and_parts, or_parts}
+use Rattle.std.proofs.lemmas.Bool.Decides.{nat_tests}
 use Rattle.calendar.specs.Spans.{expiry_of}
 use Rattle.correction.specs.Gaps.{first_unrated}
 use Rattle.refusal.specs.Refusals.{Row, first_row}
@@ -96,30 +97,24 @@ trading w h t l =
     let r = none-hold (trade_rows w h l.0.0 t) l.0.1 in
     let s = paper-some w l.0.0 (open_session h) r.0 in
     let o = open-on h s.0 s.1 in
-    let i = and_parts (is_account h t.buyer) (is_account h t.seller && is_listed h t.month) (not-false (is_account h t.buyer && (is_account h t.seller && is_listed h t.month)) r.1.0) in
-    let j = and_parts (is_account h t.seller) (is_listed h t.month) i.1 in
-    let q = or_parts (eqb t.quantity 0) (ltb 20000 t.quantity) r.1.1.1.1.0 in
-    let p = or_parts (is_over (position_of w h t.buyer t.month -ℤ pos t.quantity)) (is_over (position_of w h t.seller t.month +ℤ pos t.quantity)) r.1.1.1.1.1.1.1.0 in
-    let e = leb-false (expiry_at w h t.month) (session_day h) r.1.1.0 in
     record {
       day = s.0;
       session = o;
-      buyer = ltb-true t.buyer (length (accounts_of h)) i.0;
-      seller = ltb-true t.seller (length (accounts_of h)) j.0;
-      month = ltb-true t.month (length (months_of h)) j.1;
-      before-expiry = rw o.day at e;
+      buyer = grind (arith, nat_tests, r.1.0);
+      seller = grind (arith, nat_tests, r.1.0);
+      month = grind (arith, nat_tests, r.1.0);
+      before-expiry = omega (arith, o.day, leb-false (expiry_at w h t.month) (session_day h) r.1.1.0);
       apart = eqb-false t.buyer t.seller r.1.1.1.0;
-      small = ltb-false 20000 t.quantity q.1;
-      buyer-limit = ltb-false 500000 (nat_abs (position_of w h t.buyer t.month -ℤ pos t.quantity)) p.0;
-      seller-limit = ltb-false 500000 (nat_abs (position_of w h t.seller t.month +ℤ pos t.quantity)) p.1;
+      small = grind (arith, nat_tests, r.1.1.1.1.0);
+      buyer-limit = grind (arith, nat_tests, r.1.1.1.1.1.1.1.0);
+      seller-limit = grind (arith, nat_tests, r.1.1.1.1.1.1.1.0);
       few = leb-false 256 (length (trades_of h)) r.1.1.1.1.1.1.1.1.0;
     }
 
 -- a price is at most 10,000,000
 pub marking : (w : World) (h : History) (m p : ℕ) → Accepts w h (Marked m p) → p ≤ 10000000
 marking w h m p l =
-    let r = none-hold (mark_rows w h l.0 m p) l.1 in
-    ltb-false 10000000 p (or_parts (eqb p 0) (ltb 10000000 p) r.1.1.1.0).1
+    let r = none-hold (mark_rows w h l.0 m p) l.1 in grind (arith, nat_tests, r.1.1.1.0)
 
 pub record Closing (w : World) (h : History) : Type 0 where
   pub day : ℕ
@@ -138,12 +133,5 @@ closing w h c l =
       rated = is_none (first_unrated (rate_on w h) (gap_to w (session_day h) (sessions_of w h))) r.1.1.1.0;
     }
 
-pub record Paying (w : World) (h : History) : Type 0 where
-  pub day : ℕ
-  pub unpaid : unpaid_day w h ≡ Some day
-
-pub paying : (w : World) (h : History) → Accepts w h Paid → Paying w h
-paying w h l =
-    let r = none-hold (pay_rows w h l.0) l.1 in
-    let s = paper-some w l.0 (unpaid_day w h) r.0 in
-    record { day = s.0; unpaid = s.1 }
+pub paying : (w : World) (h : History) → Accepts w h Paid → (d : ℕ) × (unpaid_day w h ≡ Some d)
+paying w h l = paper-some w l.0 (unpaid_day w h) (none-hold (pay_rows w h l.0) l.1).0

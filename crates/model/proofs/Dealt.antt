@@ -51,18 +51,12 @@ pub record Fits (n k : ℕ) (t : Trade) : Type 0 where
 abbrev pub FitsIn : History → Trade → Type 0
 FitsIn h t = Fits (length (accounts_of h)) (length (months_of h)) t
 
-longer : {X : Type 0} (xs ys : List X) → length xs ≤ length (xs ++ ys)
-longer xs ys = simp length-append (omega arith)
-
 -- accounts and months stay
 pub fits-stays : (h : History) (e : Event) (t : Trade) → FitsIn h t → FitsIn (e ∷ h) t
 fits-stays h e t f =
-    let a = longer (accounts_of h) (list_of (entered e)) in
-    let m = longer (months_of h) (list_of (listed e)) in
-    let b = f.buyer in
-    let s = f.seller in
-    let n = f.month in
-    record { buyer = omega arith; seller = omega arith; month = omega arith; small = f.small }
+    let a = length-append (accounts_of h) (list_of (entered e)) in
+    let m = length-append (months_of h) (list_of (listed e)) in
+    record { buyer = omega (arith, f.buyer); seller = omega (arith, f.seller); month = omega (arith, f.month); small = f.small }
 
 -- the accounts are few
 pub accounts-few : (w : World) (h : History) → Lawful w h → length (accounts_of h) ≤ 32

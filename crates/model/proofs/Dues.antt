@@ -102,9 +102,9 @@ only {X} tells (e ∷ h) x f n = by (tells e) f n (only tells h x)
         ap (λ xs. xs ++ y ∷ []) (nil_from_length (gather tells h) (omega (arith, length_push (gather tells h) y))) ∙ ap (λ z. z ∷ []) same
 
 pub pays-latest : PaysLatest
-pays-latest w h c l n a = by (newest written (since is_payment h)) refl (paying w h l.0).unpaid
+pays-latest w h c l n a = by (newest written (since is_payment h)) refl (paying w h l.0).1
   where
-    by : (o : Option Amounts) → newest written (since is_payment h) ≡ o → cond (is_some o) (latest_closed w h) None ≡ Some (paying w h l.0).day → due_of h a ≡ written_for a c
+    by : (o : Option Amounts) → newest written (since is_payment h) ≡ o → cond (is_some o) (latest_closed w h) None ≡ Some (paying w h l.0).0 → due_of h a ≡ written_for a c
     by None e u = absurd cc
     by (Some x) e u =
         let same : x ≡ c = let k = newest-since written is_payment h x e in cc in

@@ -29,10 +29,6 @@ in-time-stays w h e day t i = (listed-stays h e t.month i.0, rw (months-stay w h
 all_stay : (w : World) (h : History) (e : Event) → AllByRecursion (InTime w h (session_day h)) (trades_of h) → AllByRecursion (InTime w (e ∷ h) (session_day h)) (trades_of h)
 all_stay w h e a = All-weaker (InTime w h (session_day h)) (InTime w (e ∷ h) (session_day h)) (in-time-stays w h e (session_day h)) (trades_of h) a
 
--- an event that neither opens nor trades
-same-trades : (w : World) (h : History) (e : Event) → AllByRecursion (InTime w h (session_day h)) (trades_of h) → AllByRecursion (InTime w (e ∷ h) (session_day h)) (trades_of h ++ [])
-same-trades w h e a = rw (append-nil (trades_of h)) (all_stay w h e a)
-
 -- the trades of the session are in months that expire after it
 pub trades-in-time : (w : World) (h : History) → Lawful w h → AllByRecursion (InTime w h (session_day h)) (trades_of h)
 trades-in-time w [] l = tt
@@ -42,7 +38,7 @@ trades-in-time w (Traded t ∷ h) l =
     let i : InTime w h (session_day h) t = (x.month, rw x.session.day x.before-expiry) in
     All-push (InTime w (Traded t ∷ h) (session_day h)) (trades_of h) t
     (all_stay w h (Traded t) (trades-in-time w h l.1)) (in-time-stays w h (Traded t) (session_day h) t i)
-trades-in-time w (e ∷ h) l = same-trades w h e (trades-in-time w h l.1)
+trades-in-time w (e ∷ h) l = rw (append-nil (trades_of h)) (all_stay w h e (trades-in-time w h l.1))
 
 no-contracts : (a m : ℕ) (t : Trade) → (t.month ≡ m → ⊥) → contracts_of a m t ≡ pos 0
 no-contracts a m t n = rw (ne_eqb t.month m n)

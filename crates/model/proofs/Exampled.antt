@@ -1,5 +1,5 @@
 -- The two histories of the examples are lawful, event by event, and come to what is said of them.
-use Rattle.std.proofs.Common.{◌≡◌, ℕ, ◌<◌, ◌≤◌, List, [], map, length, get_or, drop, ℤ, pos, refl, ⊎_elim, arith, lit<, lit≤}
+use Rattle.std.proofs.Common.{◌≡◌, ℕ, ◌<◌, ◌≤◌, List, [], map, length, get_or, drop, ℤ, pos, refl, inl, inr, arith, lit<, lit≤}
 use lib.ListN.{get_or-eq_default}
 use Rattle.std.specs.List.{range_with_len}
 use Rattle.std.proofs.lemmas.List.FromFn.{length-map-range_with_len, get_or-map-range_with_len}
@@ -49,15 +49,13 @@ module _ (h : History) (x : ℕ → ℕ → ℤ) where
   inside a m i = rw (row_is a i.0) (get_or-map-range_with_len (x a) 0 (length (months_of h)) m m (pos 0) i.1 (omega arith))
 
   outside : (a m : ℕ) → (InBook h a m → ⊥) → table (rows_of h x) a m ≡ pos 0
-  outside a m i = ⊎_elim no-month no-account (cases_lt a (length (accounts_of h)))
-    where
-      no-account : length (accounts_of h) ≤ a → table (rows_of h x) a m ≡ pos 0
-      no-account l = rw (past row (length (accounts_of h)) a [] l)
-
-      no-month : a < length (accounts_of h) → table (rows_of h x) a m ≡ pos 0
-      no-month l =
-          let k : m < length (months_of h) → ⊥ = λ j. i (l, j) in
-          rw (row_is a l) (past (x a) (length (months_of h)) m (pos 0) (omega arith))
+  outside a m i =
+      elim (cases_lt a (length (accounts_of h))) [
+        | inl l ↦
+            let k : m < length (months_of h) → ⊥ = λ j. i (l, j) in
+            rw (row_is a l) (past (x a) (length (months_of h)) m (pos 0) (omega arith))
+        | inr l ↦ rw (past row (length (accounts_of h)) a [] l)
+      ]
 
 -- a close that wrote what the rules give, by a ticket of that day
 pub closes : (w : World) (h : History) (day : ℕ) → Allowed (close_rows w h (paper day) (cells_of h) (cells_of h))

@@ -75,11 +75,6 @@ listed-later w h n l =
     by None expiry s d = omega arith
     by (Some x) expiry s d = omega arith
 
--- an event that neither lists nor opens
-still : (w : World) (h : History) → AllByRecursion (Expires w (latest_opened h) (opened_days h)) (months_of h)
-    → AllByRecursion (Expires w (latest_opened h) (opened_days h ++ [])) (months_of h ++ [])
-still w h a = rw (append-nil (opened_days h), append-nil (months_of h)) a
-
 expires : (w : World) (h : History) → Lawful w h → AllByRecursion (Expires w (latest_opened h) (opened_days h)) (months_of h)
 expires w [] l = tt
 expires w (Listed n ∷ h) l =
@@ -87,7 +82,7 @@ expires w (Listed n ∷ h) l =
 expires w (Opened d ∷ h) l =
     rw (append-nil (months_of h)) (All-weaker (Expires w (latest_opened h) (opened_days h)) (Expires w (Some d) (opened_days h ++ d ∷ []))
     (step w (latest_opened h) (opened_days h) d (next_from w (latest_opened h) + 60) (next-first w h d l)) (months_of h) (expires w h l.1))
-expires w (e ∷ h) l = still w h (expires w h l.1)
+expires w (e ∷ h) l = rw (append-nil (opened_days h), append-nil (months_of h)) (expires w h l.1)
 
 expires-at : (w : World) (h : History) (m : ℕ) → Lawful w h → m < length (months_of h) → Expires w (latest_opened h) (opened_days h) (month_at h m)
 expires-at w h m l i = All-get_or (Expires w (latest_opened h) (opened_days h)) (months_of h) m 0 i (expires w h l)

@@ -62,7 +62,7 @@ unreached d e (s ∷ ss) f le = let k = f.0 in lt-leb e s.day (omega arith)
 module _ (w : World) (m : ℕ) (months : List ℕ) (ss : List Session) (raw : ℤ) (k : Within (held_by w m months ss raw)) where
   -- an event that adds neither a month nor a session nor a trade
   pub silent : Within (held_by w m (months ++ []) ss raw)
-  silent = subst (λ ms. Within (held_by w m ms ss raw)) (sym (append-nil months)) k
+  silent = rw (append-nil months) k
 
   -- of a month that had not expired
   held : expired_by w m months ss ≡ false → Within raw
@@ -82,7 +82,7 @@ module _ (w : World) (m : ℕ) (months : List ℕ) (ss : List Session) (raw : �
   -- a session more, later than those before it
   closing-within : (s : Session) → AllByRecursion (λ r. r.day < s.day) ss → Within (held_by w m (months ++ []) (s ∷ ss) raw)
   closing-within s later =
-      subst (λ ms. Within (held_by w m ms (s ∷ ss) raw)) (sym (append-nil months)) (by (expired_by w m months (s ∷ ss)) refl)
+      rw (append-nil months) (by (expired_by w m months (s ∷ ss)) refl)
     where
       earlier : (x : Bool) (e : ℕ) → (x && leb e s.day) ≡ false → (x && has_reached e ss) ≡ false
       earlier true e f = let n = leb-false e s.day f in unreached s.day e ss later (omega arith)
@@ -94,7 +94,7 @@ module _ (w : World) (m : ℕ) (months : List ℕ) (ss : List Session) (raw : �
 
   -- contracts more
   trading-within : (x : ℤ) → Within (held_by w m months ss raw +ℤ x) → Within (held_by w m (months ++ []) ss (raw +ℤ x))
-  trading-within x changed = subst (λ ms. Within (held_by w m ms ss (raw +ℤ x))) (sym (append-nil months)) (by (expired_by w m months ss) changed)
+  trading-within x changed = rw (append-nil months) (by (expired_by w m months ss) changed)
     where
       by : (b : Bool) → Within (cond b (pos 0) raw +ℤ x) → Within (cond b (pos 0) (raw +ℤ x))
       by true c = omega (arith, ints)

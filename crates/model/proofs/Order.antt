@@ -61,11 +61,6 @@ closes w days latest now ss s e f o = record {
   on-session = o.on-session;
 }
 
--- an event that neither opens nor closes leaves them as they are
-still : (w : World) (h : History) → InOrder w (opened_days h) (latest_opened h) (open_session h) (sessions_of w h)
-    → InOrder w (opened_days h ++ []) (latest_opened h) (open_session h) (sessions_of w h)
-still w h o = rw (append-nil (opened_days h)) o
-
 -- an opened session is the first since the latest
 pub next-first : (w : World) (h : History) (d : ℕ) → Lawful w (Opened d ∷ h)
     → First w.kinds (next_from w (latest_opened h)) (next_from w (latest_opened h) + 60) (Some d)
@@ -78,9 +73,9 @@ in_order w (Opened d ∷ h) l =
     (subst (λ now. InOrder w (opened_days h) (latest_opened h) now (sessions_of w h)) (opening w h d l.0) (in_order w h l.1))
 in_order w (Closed c ∷ h) l =
     let o = (closing w h c l.0).session in
-    closes w (opened_days h ++ []) (latest_opened h) (open_session h) (sessions_of w h) (closed_with w h c)
-    (o.latest ∙ ap Some (sym o.day)) (o.is_open ∙ ap Some (sym o.day)) (still w h (in_order w h l.1))
-in_order w (e ∷ h) l = still w h (in_order w h l.1)
+    rw (append-nil (opened_days h)) (closes w (opened_days h) (latest_opened h) (open_session h) (sessions_of w h) (closed_with w h c)
+    (o.latest ∙ ap Some (sym o.day)) (o.is_open ∙ ap Some (sym o.day)) (in_order w h l.1))
+in_order w (e ∷ h) l = rw (append-nil (opened_days h)) (in_order w h l.1)
 
 pub falling : (w : World) (h : History) → Lawful w h → Falling (sessions_of w h)
 falling w h l = (in_order w h l).falls

@@ -60,18 +60,14 @@ carried-closed w h l o a m =
     let f : contracts_in a m (sessions_of w h) ≡ position_change a m (gather traded h) = omega (arith, ints, e) in
     ap (λ x. cond (has_ended w h m) (pos 0) x) f
 
--- an event that adds neither a month nor a session
-carried-still : (w : World) (h : History) (a m : ℕ) → Within (carried_of w h a m)
-    → Within (held_by w m (months_of h ++ []) (sessions_of w h) (contracts_in a m (sessions_of w h)))
-carried-still w h a m k = silent w m (months_of h) (sessions_of w h) (contracts_in a m (sessions_of w h)) k
-
 -- no position that a session began with passes 500,000 contracts
 pub carried-limited : (w : World) (h : History) → Lawful w h → (a m : ℕ) → nat_abs (carried_of w h a m) ≤ 500000
 carried-limited w [] l a m = cond-within (has_ended w [] m) (pos 0) (omega (arith, ints))
 carried-limited w (Listed n ∷ h) l a m =
     listing-within w m (months_of h) (sessions_of w h) (contracts_in a m (sessions_of w h)) (carried-limited w h l.1 a m) n
 carried-limited w (Closed c ∷ h) l a m = rw (carried-closed w (Closed c ∷ h) l refl a m) (positions-limited w (Closed c ∷ h) a m l)
-carried-limited w (e ∷ h) l a m = carried-still w h a m (carried-limited w h l.1 a m)
+carried-limited w (e ∷ h) l a m =
+    silent w m (months_of h) (sessions_of w h) (contracts_in a m (sessions_of w h)) (carried-limited w h l.1 a m)
 
 -- a mark of a session is at most 10,000,000
 mark-limited : (w : World) (h : History) → Lawful w h → (m : ℕ) → unwrap_or (mark_of h m) 0 ≤ 10000000

@@ -36,13 +36,10 @@ module _ (a m : ℕ) where
   more : (c w p k x y : ℤ) → c *ℤ (w -ℤ p *ℤ k) +ℤ (x *ℤ w -ℤ y *ℤ k) ≡ (c +ℤ x) *ℤ w -ℤ (c *ℤ p +ℤ y) *ℤ k
   more c w p k x y = simp expands (omega (arith, sums))
 
-  none : (w k : ℤ) → pos 0 ≡ pos 0 *ℤ w -ℤ pos 0 *ℤ k
-  none w k = omega (arith, ints)
-
   -- each trade from its price times k to w
   trades-split : (w k : ℤ) (ts : List Trade)
       → total (λ t. contracts_of a m t *ℤ (w -ℤ pos t.price *ℤ k)) ts ≡ position_change a m ts *ℤ w -ℤ cost_of ts *ℤ k
-  trades-split w k [] = none w k
+  trades-split w k [] = omega (arith, ints)
   trades-split w k (t ∷ ts) =
       ap (λ z. contracts_of a m t *ℤ (w -ℤ pos t.price *ℤ k) +ℤ z) (trades-split w k ts)
       ∙ more (contracts_of a m t) w (pos t.price) k (position_change a m ts) (cost_of ts)
@@ -63,12 +60,9 @@ module _ (a m : ℕ) where
   split-more : (q w c k x y : ℤ) → (q *ℤ w -ℤ c *ℤ k) +ℤ (x *ℤ w -ℤ y) ≡ (q +ℤ x) *ℤ w -ℤ (c *ℤ k +ℤ y)
   split-more q w c k x y = simp expands (omega (arith, sums))
 
-  none_more : (w : ℤ) → pos 0 ≡ pos 0 *ℤ w -ℤ pos 0
-  none_more w = omega (arith, ints)
-
   pub value-split : (scale : ℕ → ℕ) (end : ℕ) (ss : List Session)
       → value_over scale end a m ss ≡ contracts_in a m ss *ℤ pos end -ℤ cost_over scale ss
-  value-split scale end [] = none_more (pos end)
+  value-split scale end [] = omega (arith, ints)
   value-split scale end (s ∷ ss) =
       ap (λ z. z +ℤ value_over scale end a m ss) (trades-split (pos end) (pos (scale s.day)) s.trades)
       ∙ ap (λ z. (position_change a m s.trades *ℤ pos end -ℤ cost_of s.trades *ℤ pos (scale s.day)) +ℤ z) (value-split scale end ss)
@@ -239,8 +233,7 @@ module _ (w : World) (rates : ℕ → Option ℕ) (a m : ℕ) where
         value-split a m (scale s.day) (p * scale s.day s.day) (s ∷ ss) ∙ ap (λ z. q *ℤ pos (p * z) -ℤ y) (scale-here w.kinds rates first s.day) in
         let v' : value_over (scale r.day) (p' * k) a m (r ∷ s ∷ ss) ≡ (t +ℤ q) *ℤ pos (p' * k) -ℤ (c *ℤ pos k +ℤ y *ℤ pos g) =
         value-split a m (scale r.day) (p' * k) (r ∷ s ∷ ss) ∙ ap (λ z. (t +ℤ q) *ℤ pos (p' * k) -ℤ (c *ℤ pos k +ℤ z)) cost in
-        let near' : 2 * nat_abs (x -ℤ (q *ℤ pos (p * u) -ℤ y)) ≤ held_over (scale s.day) a m (s ∷ ss) (reserve_days w.kinds first s.day) =
-        subst (λ z. 2 * nat_abs (x -ℤ z) ≤ held_over (scale s.day) a m (s ∷ ss) (reserve_days w.kinds first s.day)) v near in
+        let near' : 2 * nat_abs (x -ℤ (q *ℤ pos (p * u) -ℤ y)) ≤ held_over (scale s.day) a m (s ∷ ss) (reserve_days w.kinds first s.day) = rw v at near in
         let all = one_more x y q t c (r.amounts.adjustments a m) p p' u corrected g n k (drift (factors rates (reserve_days w.kinds s.day r.day)))
         (held_over (scale s.day) a m (s ∷ ss) (reserve_days w.kinds first s.day)) unit-r cell near'
         (subst (λ i. 2 * nat_abs (pos (p * g) -ℤ pos (corrected * 100000000 ^ i)) ≤ drift (factors rates (reserve_days w.kinds s.day r.day)))

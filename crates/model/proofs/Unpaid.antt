@@ -1,7 +1,7 @@
 -- At most one close is unpaid, and while one is unpaid nothing closes.
 use Rattle.std.proofs.Common.{◌≡◌, Bool, true, false, cond, [], ◌∷◌, ◌++◌, is_some, Some, None, Option, sym, refl, ap, ◌∙◌, arith}
 use Rattle.std.proofs.lemmas.List.{append-nil}
-use Rattle.std.proofs.lemmas.Bool.{true≢false}
+use Rattle.std.proofs.lemmas.Bool.{true≢false, cond-true, false_from_ne_true}
 use Rattle.model.specs.World.{World}
 use Rattle.model.specs.History.{History, Event, Closed, Paid, written, is_payment, or_else, list_of, gather, newest, since}
 use Rattle.model.specs.Sessions.{latest_closed, unpaid_day}
@@ -26,11 +26,10 @@ closed_some w (e ∷ h) s = closed_some w h s
 
 -- where no slip is unpaid, no close came since the latest payment
 pub none-unpaid : (w : World) (h : History) → unpaid_day w h ≡ None → gather written (since is_payment h) ≡ []
-none-unpaid w h u = none_told written (since is_payment h) (is_none (newest written (since is_payment h)) (by (is_some (newest written (since is_payment h))) refl u))
-  where
-    by : (b : Bool) → is_some (newest written (since is_payment h)) ≡ b → cond b (latest_closed w h) None ≡ None → b ≡ false
-    by true e k = sym (closed_some w h e) ∙ ap is_some k
-    by false e k = refl
+none-unpaid w h u =
+    let last = newest written (since is_payment h) in
+    none_told written (since is_payment h) (is_none last
+    (false_from_ne_true (is_some last) (λ e. true≢false (sym (closed_some w h e) ∙ ap is_some (sym (cond-true (is_some last) (latest_closed w h) None e) ∙ u)))))
 
 pub closes-paid : ClosesPaid
 closes-paid w h c l = none-unpaid w h (closing w h c l.0).paid

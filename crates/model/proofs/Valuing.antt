@@ -100,18 +100,15 @@ before-event : (w : World) (h : History) (e : Event) (m expiry : ℕ) → (m < l
 before-event w h e m expiry is b =
     sym (months-stay w h e m b) ∙ is (let n = length-append (months_of h) (list_of (listed e)) in omega arith)
 
--- an event that closes nothing
-still : (w : World) (h : History) (e : Event) → Lawful w (e ∷ h) → (a m expiry : ℕ)
-    → AllRightly w a m expiry (rate_on w h) (sessions_of w h) → AllRightly w a m expiry (rate_on w (e ∷ h)) (sessions_of w h)
-still w h e l a m expiry = rightly-stays w a m expiry (rate_on w h) (rate_on w (e ∷ h)) (λ d r. rate-stays w h e d r l) (sessions_of w h)
-
 pub all_right : (w : World) (h : History) → Lawful w h → (a m expiry : ℕ) → (m < length (months_of h) → expiry_at w h m ≡ expiry)
     → AllRightly w a m expiry (rate_on w h) (sessions_of w h)
 all_right w [] l a m expiry is = tt
 all_right w (Closed c ∷ h) l a m expiry is =
     let known = before-event w h (Closed c) m expiry is in
     (right-close w h c l a m expiry known, all_right w h l.1 a m expiry known)
-all_right w (e ∷ h) l a m expiry is = still w h e l a m expiry (all_right w h l.1 a m expiry (before-event w h e m expiry is))
+all_right w (e ∷ h) l a m expiry is =
+    rightly-stays w a m expiry (rate_on w h) (rate_on w (e ∷ h)) (λ d r. rate-stays w h e d r l) (sessions_of w h)
+    (all_right w h l.1 a m expiry (before-event w h e m expiry is))
 
 near-value : (w : World) (h : History) → Lawful w h → (a m : ℕ)
     → NearFrom w (rate_on w h) (oldest_day 0 (sessions_of w h)) a m (up_to (expiry_at w h m) (sessions_of w h))
