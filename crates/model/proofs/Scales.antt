@@ -1,5 +1,5 @@
 -- What amounts are multiplied by: products of factors and powers of 10^8 over joined ranges of days.
-use Rattle.std.proofs.Common.{◌≡◌, ℕ, zero, suc, ◌+◌, ◌-◌, ◌*◌, ◌^◌, ◌<◌, ◌≤◌, Bool, true, false, cond, List, [], ◌∷◌, ◌++◌, length, sum_by, Option, sym, refl, ap, ◌∙◌, mul_assoc, add-mul, one-mul, pow-suc, mul-zero, zero-mul, mul-one, add-one, arith, pow-add}
+use Rattle.std.proofs.Common.{◌≡◌, ℕ, zero, suc, ◌+◌, ◌-◌, ◌*◌, ◌^◌, ◌<◌, ◌≤◌, Bool, true, false, cond, List, [], ◌∷◌, ◌++◌, length, sum_by, Option, sym, refl, ap, ◌∙◌, mul_assoc, add-mul, one-mul, pow-suc, mul-zero, zero-mul, mul-one, add-one, add-zero, arith, pow-add}
 use Rattle.std.specs.List.{range_with_len, AllByRecursion}
 use Rattle.std.proofs.ByRecursion.{All-from_get_or, all_kept_by}
 use Rattle.std.proofs.lemmas.List.FromFn.{length-range_with_len, get_or-range_with_len}
@@ -8,7 +8,7 @@ use Rattle.std.proofs.lemmas.List.Sums.{sum_by-cons}
 use Rattle.calendar.specs.declared.kind.DayKind.{DayKind}
 use Rattle.calendar.specs.Kinds.{is_reserve}
 use Rattle.calendar.specs.Spans.{days_by, reserve_days}
-use Rattle.calendar.proofs.Spans.{days-none, days-head, days-split, days-more}
+use Rattle.calendar.proofs.Spans.{days-none, days-head, days-split, count-more}
 use Rattle.correction.specs.Gaps.{factor_on, factors}
 use Rattle.interest.specs.Rounding.{product, drift}
 use Rattle.model.specs.Value.{scale_of}
@@ -83,39 +83,20 @@ module _ (kinds : ℕ → DayKind) (rates : ℕ → Option ℕ) where
         l : from < to
         l = omega arith
 
-        f : ℕ → ℕ
-        f d = scale_of kinds rates first to (d + 1)
+        shape : (u g d : ℕ) → u * 100000000 * g + u * 100000000 * d ≡ u * (100000000 * (g + d))
+        shape u g d = omega arith
 
         by : (b : Bool) → is_reserve (kinds from) ≡ b
             → carried_days to (from + 1) ≡ unit (from + 1) * drift (factors rates (reserve_days kinds (from + 1) to))
             → carried_days to from ≡ unit from * drift (factors rates (reserve_days kinds from to))
         by true is more =
-            let days : reserve_days kinds from to ≡ from ∷ reserve_days kinds (from + 1) to =
-            days-head is_reserve kinds from to l ∙ ap (λ b. cond b (from ∷ reserve_days kinds (from + 1) to) (reserve_days kinds (from + 1) to)) is in
-            let one : reserve_days kinds first (from + 1) ≡ reserve_days kinds first from ++ from ∷ [] =
-            days-more is_reserve kinds first from h ∙ ap (λ b. reserve_days kinds first from ++ cond b (from ∷ []) []) is in
-            let u : unit (from + 1) ≡ unit from * 100000000 =
-            ap (λ n. 100000000 ^ n) (ap length one ∙ length-append (reserve_days kinds first from) (from ∷ []) ∙ add-one (length (reserve_days kinds first from)))
-            ∙ pow-suc 100000000 (length (reserve_days kinds first from)) in
-            let c = sum_by-cons (λ d. scale_of kinds rates first to (d + 1)) from (reserve_days kinds (from + 1) to) in
-            ap (λ ds. sum_by (λ d. scale_of kinds rates first to (d + 1)) ds) days ∙ c
-            ∙ ap (λ n. scale_of kinds rates first to (from + 1) + n) more
-            ∙ ap (λ n. n * growth (from + 1) to + n * drift (factors rates (reserve_days kinds (from + 1) to))) u
-            ∙ shape (unit from) (growth (from + 1) to) (drift (factors rates (reserve_days kinds (from + 1) to)))
-            ∙ ap (λ ds. unit from * drift (factors rates ds)) (sym days)
-          where
-            shape : (u g d : ℕ) → u * 100000000 * g + u * 100000000 * d ≡ u * (100000000 * (g + d))
-            shape u g d = omega arith
+            let n = length (reserve_days kinds first from) in
+            let u : unit (from + 1) ≡ unit from * 100000000 = rw (count-more is_reserve kinds first from h, is, add-one n, pow-suc 100000000 n) refl in
+            rw (days-head is_reserve kinds from to l, is, sum_by-cons (λ d. scale_of kinds rates first to (d + 1)) from (reserve_days kinds (from + 1) to), more, u)
+            (shape (unit from) (growth (from + 1) to) (drift (factors rates (reserve_days kinds (from + 1) to))))
         by false is more =
-            let days : reserve_days kinds from to ≡ reserve_days kinds (from + 1) to =
-            days-head is_reserve kinds from to l ∙ ap (λ b. cond b (from ∷ reserve_days kinds (from + 1) to) (reserve_days kinds (from + 1) to)) is in
-            let one : reserve_days kinds first (from + 1) ≡ reserve_days kinds first from ++ [] =
-            days-more is_reserve kinds first from h ∙ ap (λ b. reserve_days kinds first from ++ cond b (from ∷ []) []) is in
-            let u : unit (from + 1) ≡ unit from =
-            ap (λ n. 100000000 ^ n) (ap length one ∙ length-append (reserve_days kinds first from) [] ∙ omega arith) in
-            ap (λ ds. sum_by (λ d. scale_of kinds rates first to (d + 1)) ds) days ∙ more
-            ∙ ap (λ n. n * drift (factors rates (reserve_days kinds (from + 1) to))) u
-            ∙ ap (λ ds. unit from * drift (factors rates ds)) (sym days)
+            let u : unit (from + 1) ≡ unit from = rw (count-more is_reserve kinds first from h, is, add-zero (length (reserve_days kinds first from))) refl in
+            rw (days-head is_reserve kinds from to l, is, more, u) refl
 
     pub days-drift : (from to : ℕ) → first ≤ from → carried_days to from ≡ unit from * drift (factors rates (reserve_days kinds from to))
     days-drift from to h = days-drift-by (to - from) from to refl h

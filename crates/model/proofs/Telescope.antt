@@ -238,11 +238,7 @@ module _ (w : World) (rates : ℕ → Option ℕ) (a m : ℕ) where
         (held_over (scale s.day) a m (s ∷ ss) (reserve_days w.kinds first s.day)) unit-r cell near'
         (subst (λ i. 2 * nat_abs (pos (p * g) -ℤ pos (corrected * 100000000 ^ i)) ≤ drift (factors rates (reserve_days w.kinds s.day r.day)))
         (length-map (reserve_days w.kinds s.day r.day) (factor_on rates)) (rounded p (factors rates (reserve_days w.kinds s.day r.day)))) in
-        let summed = subst (λ z. 2 * nat_abs ((r.amounts.adjustments a m *ℤ pos k +ℤ z) -ℤ ((t +ℤ q) *ℤ pos (p' * k) -ℤ (c *ℤ pos k +ℤ y *ℤ pos g)))
-        ≤ held_over (scale s.day) a m (s ∷ ss) (reserve_days w.kinds first s.day) * g + nat_abs q * drift (factors rates (reserve_days w.kinds s.day r.day)) * u) (sym sum) all in
-        let valued = subst (λ z. 2 * nat_abs (adjustments_over (scale r.day) a m (r ∷ s ∷ ss) -ℤ z)
-        ≤ held_over (scale s.day) a m (s ∷ ss) (reserve_days w.kinds first s.day) * g + nat_abs q * drift (factors rates (reserve_days w.kinds s.day r.day)) * u) (sym v') summed in
-        subst (λ z. 2 * nat_abs (adjustments_over (scale r.day) a m (r ∷ s ∷ ss) -ℤ value_over (scale r.day) (p' * k) a m (r ∷ s ∷ ss)) ≤ z) (sym (held_more r s ss f l)) valued
+        rw (v', sum, held_more r s ss f l) all
 
     pub close : (s : Session) (ss : List Session) → Falling (s ∷ ss) → Ruled (s ∷ ss) → first ≡ oldest_day s.day ss → Close s ss
     close s [] f h e = start s h.0
