@@ -22,16 +22,13 @@ closed-moves h c a =
     ∙ ap (λ x. due_of h a +ℤ x) (+ℤ_idr (written_for a c))
 
 still-due : (e : Event) (h : History) (a : ℕ) → written e ≡ None → is_payment e ≡ false → due_of (e ∷ h) a ≡ due_of h a
-still-due e h a n p =
-    ap (λ b. total (written_for a) (gather written (cond b [] (e ∷ since is_payment h)))) p
-    ∙ ap (λ o. total (written_for a) (gather written (since is_payment h) ++ list_of o)) n
-    ∙ ap (total (written_for a)) (append-nil (gather written (since is_payment h)))
+still-due e h a n p = rw (p, n, append-nil (gather written (since is_payment h)))
 
 pub dues-move : DuesMove
 dues-move = record {
   closed = λ h c a. (closed-moves h c a, refl);
   paid = λ h a. (refl, sym (all-written h a));
-  still = λ e h a n p. (still-due e h a n p, ap (λ b. total (written_for a) (gather written (cond b h (before is_payment h)))) p);
+  still = λ e h a n p. (still-due e h a n p, rw p);
 }
 
 -- while a close is unpaid, no event is a close
@@ -50,9 +47,7 @@ no-close w h e l u = refl
 
 still-unpaid : (e : Event) (h : History) → written e ≡ None → is_payment e ≡ false → is_some (newest written (since is_payment h)) ≡ true
     → is_some (newest written (since is_payment (e ∷ h))) ≡ true
-still-unpaid e h n p u =
-    ap (λ b. is_some (newest written (cond b [] (e ∷ since is_payment h)))) p
-    ∙ ap (λ o. is_some (or_else o (newest written (since is_payment h)))) n ∙ u
+still-unpaid e h n p u = rw (p, n) u
 
 -- what stays while nothing is paid
 record Waits (k h : History) : Type 0 where
@@ -67,7 +62,7 @@ waits w (e ∷ k) h l u p =
     let n = no-close w (k ++ h) e l r.unpaid in
     record {
       unpaid = still-unpaid e (k ++ h) n p.0 r.unpaid;
-      none = ap (λ o. gather written k ++ list_of o) n ∙ append-nil (gather written k) ∙ r.none;
+      none = rw (n, append-nil (gather written k)) r.none;
       due = λ a. still-due e (k ++ h) a n p.0 ∙ r.due a;
     }
 

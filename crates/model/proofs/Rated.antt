@@ -50,11 +50,10 @@ pub factors-stay : (rates rates' : ℕ → Option ℕ) (days : List ℕ) → Kep
 factors-stay rates rates' [] k h = refl
 factors-stay rates rates' (d ∷ days) k h =
     let p = rated-head rates d days h in
-    ap₂ ◌∷◌ (ap (λ o. day_factor (unwrap_or o 0)) (k d p.0.0 p.0.1 ∙ sym p.0.1)) (factors-stay rates rates' days k p.1)
+    rw (k d p.0.0 p.0.1, p.0.1, factors-stay rates rates' days k p.1)
 
 pub rated-stay : (rates rates' : ℕ → Option ℕ) (days : List ℕ) → Kept rates rates' → first_unrated rates days ≡ None → first_unrated rates' days ≡ None
 rated-stay rates rates' [] k h = refl
 rated-stay rates rates' (d ∷ days) k h =
     let p = rated-head rates d days h in
-    ap (λ o. first_in (cond (not (is_some o)) (d ∷ filter (is_unrated rates') days) (filter (is_unrated rates') days))) (k d p.0.0 p.0.1)
-    ∙ rated-stay rates rates' days k p.1
+    rw (k d p.0.0 p.0.1) (rated-stay rates rates' days k p.1)

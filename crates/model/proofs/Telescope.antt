@@ -41,8 +41,7 @@ module _ (a m : ℕ) where
       → total (λ t. contracts_of a m t *ℤ (w -ℤ pos t.price *ℤ k)) ts ≡ position_change a m ts *ℤ w -ℤ cost_of ts *ℤ k
   trades-split w k [] = omega (arith, ints)
   trades-split w k (t ∷ ts) =
-      ap (λ z. contracts_of a m t *ℤ (w -ℤ pos t.price *ℤ k) +ℤ z) (trades-split w k ts)
-      ∙ more (contracts_of a m t) w (pos t.price) k (position_change a m ts) (cost_of ts)
+      rw (trades-split w k ts) (more (contracts_of a m t) w (pos t.price) k (position_change a m ts) (cost_of ts))
 
   by_one : (p w : ℤ) → w -ℤ p ≡ w -ℤ p *ℤ pos 1
   by_one p w = omega (arith, ints)
@@ -64,9 +63,8 @@ module _ (a m : ℕ) where
       → value_over scale end a m ss ≡ contracts_in a m ss *ℤ pos end -ℤ cost_over scale ss
   value-split scale end [] = omega (arith, ints)
   value-split scale end (s ∷ ss) =
-      ap (λ z. z +ℤ value_over scale end a m ss) (trades-split (pos end) (pos (scale s.day)) s.trades)
-      ∙ ap (λ z. (position_change a m s.trades *ℤ pos end -ℤ cost_of s.trades *ℤ pos (scale s.day)) +ℤ z) (value-split scale end ss)
-      ∙ split-more (position_change a m s.trades) (pos end) (cost_of s.trades) (pos (scale s.day)) (contracts_in a m ss) (cost_over scale ss)
+      rw (trades-split (pos end) (pos (scale s.day)) s.trades, value-split scale end ss)
+      (split-more (position_change a m s.trades) (pos end) (cost_of s.trades) (pos (scale s.day)) (contracts_in a m ss) (cost_over scale ss))
 
 -- a sum over sessions, carried further
 regroup : (f b g x : ℤ) → f *ℤ (b *ℤ g) +ℤ x *ℤ g ≡ (f *ℤ b +ℤ x) *ℤ g
@@ -76,9 +74,7 @@ total-on : (f : Session → ℤ) (scale further : ℕ → ℕ) (g : ℕ) (ss : L
     → total (λ s. f s *ℤ pos (further s.day)) ss ≡ total (λ s. f s *ℤ pos (scale s.day)) ss *ℤ pos g
 total-on f scale further g [] h = sym (zero-*ℤ (pos g))
 total-on f scale further g (s ∷ ss) h =
-    ap (λ n. f s *ℤ pos n +ℤ total (λ s. f s *ℤ pos (further s.day)) ss) h.0
-    ∙ ap (λ z. f s *ℤ pos (scale s.day * g) +ℤ z) (total-on f scale further g ss h.1)
-    ∙ regroup (f s) (pos (scale s.day)) (pos g) (total (λ s. f s *ℤ pos (scale s.day)) ss)
+    rw (h.0, total-on f scale further g ss h.1) (regroup (f s) (pos (scale s.day)) (pos g) (total (λ s. f s *ℤ pos (scale s.day)) ss))
 
 -- ---- sessions up to a day
 pub all-kept : (d : ℕ) (ss : List Session) → AllByRecursion (λ s. s.day ≤ d) ss → up_to d ss ≡ ss
@@ -149,13 +145,9 @@ module _ (w : World) (rates : ℕ → Option ℕ) (a m : ℕ) where
         let p = s.prices m in
         let c = cost_of a m s.trades in
         let cell : s.amounts.adjustments a m ≡ t *ℤ pos p -ℤ c *ℤ pos 1 +ℤ pos 0 =
-        h ∙ ap (λ z. z +ℤ gain_of (pos 0) p 0) (on-trades a m p s.trades) ∙ ap (λ z. t *ℤ pos p -ℤ c *ℤ pos 1 +ℤ z) (gain-none p 0) in
+        rw (on-trades a m p s.trades, gain-none p 0) at h in
         let v = value-split a m (scale s.day) (p * k) (s ∷ []) in
-        let e : adjustments_over (scale s.day) a m (s ∷ []) -ℤ value_over (scale s.day) (p * k) a m (s ∷ []) ≡ pos 0 =
-        ap (λ z. (z *ℤ pos k +ℤ pos 0) -ℤ value_over (scale s.day) (p * k) a m (s ∷ [])) cell
-        ∙ ap (λ z. ((t *ℤ pos p -ℤ c *ℤ pos 1 +ℤ pos 0) *ℤ pos k +ℤ pos 0) -ℤ z) v
-        ∙ start-eq t (pos p) c (pos 0) (pos k) ∙ zero-*ℤ (pos k) in
-        rw e (omega arith)
+        rw (cell, v, start-eq t (pos p) c (pos 0) (pos k) ∙ zero-*ℤ (pos k)) (omega arith)
 
     on-carried : (q : ℤ) (p c : ℕ) → gain_of q p c ≡ q *ℤ (pos p -ℤ pos c)
     unfolding gain_of
@@ -165,18 +157,15 @@ module _ (w : World) (rates : ℕ → Option ℕ) (a m : ℕ) where
     held-before : (r s : Session) (ss : List Session) (d : ℕ) → d < s.day → s.day < r.day
         → held_on a m (r ∷ s ∷ ss) d * scale r.day (d + 1) ≡ held_on a m (s ∷ ss) d * scale s.day (d + 1) * growth w.kinds rates s.day r.day
     held-before r s ss d h l =
-        let k = scale-on w.kinds rates first s.day r.day (d + 1) (omega arith) (omega arith) in
-        ap (λ xs. nat_abs (contracts_in a m xs) * scale r.day (d + 1)) (later-left d r (s ∷ ss) (omega arith))
-        ∙ ap (λ n. held_on a m (s ∷ ss) d * n) k
-        ∙ sym (mul_assoc (held_on a m (s ∷ ss) d) (scale s.day (d + 1)) (growth w.kinds rates s.day r.day))
+        rw (later-left d r (s ∷ ss) (omega arith), scale-on w.kinds rates first s.day r.day (d + 1) (omega arith) (omega arith))
+        (sym (mul_assoc (held_on a m (s ∷ ss) d) (scale s.day (d + 1)) (growth w.kinds rates s.day r.day)))
 
     -- a day of the gap
     held_after : (r s : Session) (ss : List Session) (d : ℕ) → s.day ≤ d → d < r.day → Falling (s ∷ ss)
         → held_on a m (r ∷ s ∷ ss) d * scale r.day (d + 1) ≡ scale r.day (d + 1) * nat_abs (contracts_in a m (s ∷ ss))
     held_after r s ss d h l f =
         let all = All-weaker (λ x. x.day ≤ s.day) (λ x. x.day ≤ d) (λ x b. omega arith) (s ∷ ss) (up-to s ss f) in
-        ap (λ xs. nat_abs (contracts_in a m xs) * scale r.day (d + 1)) (later-left d r (s ∷ ss) l ∙ all-kept d (s ∷ ss) all)
-        ∙ mul_comm (nat_abs (contracts_in a m (s ∷ ss))) (scale r.day (d + 1))
+        rw (later-left d r (s ∷ ss) l, all-kept d (s ∷ ss) all) (mul_comm (nat_abs (contracts_in a m (s ∷ ss))) (scale r.day (d + 1)))
 
     -- what is held up to the new session: what was held, carried, and the position over the gap
     held_more : (r s : Session) (ss : List Session) → Falling (r ∷ s ∷ ss) → first ≤ s.day
@@ -199,9 +188,8 @@ module _ (w : World) (rates : ℕ → Option ℕ) (a m : ℕ) where
         (All-weaker (λ d. (s.day ≤ d) × (d < r.day)) (λ d. now d ≡ gap d * q) (λ d b. held_after r s ss d b.0 b.1 f.1) after (days-within w.kinds s.day r.day))
         ∙ sums-times gap q after
         ∙ ap (λ n. n * q) (days-drift w.kinds rates first s.day r.day l) in
-        ap (sum_by now) (days-split is_reserve w.kinds first s.day r.day l later) ∙ sum_by-append now before after
-        ∙ ap (λ n. n + sum_by now after) one ∙ ap (λ n. sum_by old before * g + n) two
-        ∙ shape (sum_by old before * g) (unit w.kinds rates first s.day) (drift (factors rates after)) q
+        rw (days-split is_reserve w.kinds first s.day r.day l later, sum_by-append now before after, one, two)
+        (shape (sum_by old before * g) (unit w.kinds rates first s.day) (drift (factors rates after)) q)
       where
         shape : (b u d q : ℕ) → b + u * d * q ≡ b + q * d * u
         shape b u d q = omega arith
@@ -222,7 +210,7 @@ module _ (w : World) (rates : ℕ → Option ℕ) (a m : ℕ) where
         let x = adjustments_over (scale s.day) a m (s ∷ ss) in
         let y = cost_over a m (scale s.day) (s ∷ ss) in
         let cell : r.amounts.adjustments a m ≡ t *ℤ pos p' -ℤ c *ℤ pos 1 +ℤ q *ℤ (pos p' -ℤ pos corrected) =
-        h ∙ ap (λ z. z +ℤ gain_of q p' corrected) (on-trades a m p' r.trades) ∙ ap (λ z. t *ℤ pos p' -ℤ c *ℤ pos 1 +ℤ z) (on-carried q p' corrected) in
+        rw (on-trades a m p' r.trades, on-carried q p' corrected) at h in
         let scaled : AllByRecursion (λ x. scale r.day x.day ≡ scale s.day x.day * g) (s ∷ ss) =
         All-weaker (λ x. x.day ≤ s.day) (λ x. scale r.day x.day ≡ scale s.day x.day * g)
         (λ x b. scale-on w.kinds rates first s.day r.day x.day b later) (s ∷ ss) (up-to s ss f.1) in

@@ -48,8 +48,7 @@ module _ (w : World) (a m expiry : ℕ) where
   rightly-stays rates rates' k (s ∷ ss) h = (
     record {
       rated = rated-stay rates rates' (gap_to w s.day ss) k h.0.rated;
-      adjusted = λ b. h.0.adjusted b
-          ∙ ap (adjustment_of a m (s.prices m) s.trades (contracts_in a m ss)) (sym (corrected-stays rates rates' k s.day ss h.0.rated));
+      adjusted = λ b. rw (corrected-stays rates rates' k s.day ss h.0.rated) (h.0.adjusted b);
     },
     rightly-stays rates rates' k ss h.1,
   )
@@ -89,9 +88,7 @@ right-close w h c l a m expiry is =
     let before = rw (sym facts.session.day) at (open-later w h facts.day l.1 facts.session.is_open) in
     record {
       rated = facts.rated;
-      adjusted = λ b. cells w h c l a m
-          ∙ ap (λ t. adjustment_of a m (settlement_price w h m) (trades_of h) (cond t (pos 0) (contracts_in a m (sessions_of w h))) (corrected_to w (rate_on w h) (session_day h) (sessions_of w h) m))
-          (unexpired w h m expiry is before b);
+      adjusted = λ b. rw (cells w h c l a m, unexpired w h m expiry is before b);
     }
 
 -- the month's expiry was the same before an event, if the month was listed
