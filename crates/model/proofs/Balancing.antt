@@ -71,7 +71,7 @@ gains-opposite : (f : ℕ → ℤ) (price before : ℕ) (accounts : List ℕ) �
     → total (λ a. gain_of (f a) price before) accounts ≡ pos 0
 unfolding gain_of
 gains-opposite f price before accounts z =
-    total-times f (pos price -ℤ pos before) accounts ∙ ap (λ x. x *ℤ (pos price -ℤ pos before)) z ∙ zero-*ℤ (pos price -ℤ pos before)
+    rw (total-times f (pos price -ℤ pos before) accounts, z) (zero-*ℤ (pos price -ℤ pos before))
 
 pub adjustments-balance : (w : World) (h : History) (m : ℕ) → Lawful w h → total (λ a. adjustment_at w h a m) account_indices ≡ pos 0
 adjustments-balance w h m l =

@@ -72,10 +72,8 @@ after w h c l a m i b =
   where
     nothing : has_ended w h m ≡ true → adjustment_at w h a m ≡ pos 0
     nothing x =
-        ap₂ ◌+ℤ◌ (trades-none a m (settlement_price w h m) (trades_of h) (other-months w h a m l.1 (omega arith)))
-        (ap (λ p. gain_of p (settlement_price w h m) (corrected_to w (rate_on w h) (session_day h) (sessions_of w h) m))
-        (cond-true (has_ended w h m) (pos 0) (contracts_in a m (sessions_of w h)) x)
-        ∙ gain-none (settlement_price w h m) (corrected_to w (rate_on w h) (session_day h) (sessions_of w h) m))
+        let price = settlement_price w h m in
+        rw (trades-none a m price (trades_of h) (other-months w h a m l.1 (omega arith)), x, gain-none price (corrected_to w (rate_on w h) (session_day h) (sessions_of w h) m))
 
 abbrev Ended : World → List ℕ → List Session → Type 0
 Ended w ms ss = (a m : ℕ) → m < length ms → AllByRecursion (λ s. expiry_day w.kinds (get_or ms m 0) < s.day → s.amounts.adjustments a m ≡ pos 0) ss
@@ -100,7 +98,5 @@ pub ended : (w : World) (h : History) → Lawful w h → (a m : ℕ) → m < len
     → AllByRecursion (λ s. expiry_at w h m < s.day → s.amounts.adjustments a m ≡ pos 0) (sessions_of w h)
 ended w [] l = λ a m i. tt
 ended w (Listed n ∷ h) l = lists w h n l (ended w h l.1)
-ended w (Closed c ∷ h) l =
-    let e = ended w h l.1 in
-    still w (months_of h) (sessions_of w (Closed c ∷ h)) (λ a m i. (after w h c l a m i, e a m i))
+ended w (Closed c ∷ h) l = still w (months_of h) (sessions_of w (Closed c ∷ h)) (λ a m i. (after w h c l a m i, ended w h l.1 a m i))
 ended w (e ∷ h) l = still w (months_of h) (sessions_of w h) (ended w h l.1)

@@ -66,7 +66,7 @@ module _ (w : World) (m : ℕ) (months : List ℕ) (ss : List Session) (raw : �
 
   -- of a month that had not expired
   held : expired_by w m months ss ≡ false → Within raw
-  held e = subst (λ b. Within (cond b (pos 0) raw)) e k
+  held e = rw e at k
 
   -- a month more
   pub listing-within : (n : ℕ) → Within (held_by w m (months ++ n ∷ []) ss raw)
@@ -74,9 +74,8 @@ module _ (w : World) (m : ℕ) (months : List ℕ) (ss : List Session) (raw : �
     where
       by : (m < length months) ⊎ (length months ≤ m) → Within (held_by w m (months ++ n ∷ []) ss raw)
       by (inl lt) =
-          subst₂ (λ b x. Within (cond (b && has_reached (expiry_day w.kinds x) ss) (pos 0) raw))
-          (lt-ltb m (length months) lt ∙ sym (lt-ltb m (length (months ++ n ∷ [])) (rw (length_push months n) (omega arith))))
-          (sym (get_or_append_left months (n ∷ []) 0 m lt)) k
+          rw (lt-ltb m (length (months ++ n ∷ [])) (rw (length_push months n) (omega arith)), get_or_append_left months (n ∷ []) 0 m lt)
+          (rw (lt-ltb m (length months) lt) at k)
       by (inr le) = cond-within (expired_by w m (months ++ n ∷ []) ss) raw (held (unlisted w m months ss le))
 
   -- a session more, later than those before it
@@ -123,7 +122,7 @@ positions-limited w (Listed n ∷ h) a m l =
 positions-limited w (Traded t ∷ h) a m l =
     let r = trading w h t l.0 in
     let k = positions-limited w h a m l.1 in
-    subst (λ x. Within (held_by w m (months_of h ++ []) (sessions_of w h) x)) (one_more a m (gather traded h) t)
+    rw (sym (one_more a m (gather traded h) t))
     (trading-within w m (months_of h) (sessions_of w h) (position_change a m (gather traded h)) k (contracts_of a m t)
     (trade-within (position_of w h) a m t r.apart r.buyer-limit r.seller-limit k))
 positions-limited w (Closed c ∷ h) a m l =

@@ -15,7 +15,7 @@ use Rattle.model.specs.Value.{scale_of}
 
 pub product-append : (xs ys : List ℕ) → product (xs ++ ys) ≡ product xs * product ys
 product-append [] ys = sym (one-mul (product ys))
-product-append (x ∷ xs) ys = ap (λ p. x * p) (product-append xs ys) ∙ sym (mul_assoc x (product xs) (product ys))
+product-append (x ∷ xs) ys = rw (product-append xs ys) (sym (mul_assoc x (product xs) (product ys)))
 
 -- sums that agree on each element
 pub sums_same : {X : Type 0} (f g : X → ℕ) (xs : List X) → AllByRecursion (λ x. f x ≡ g x) xs → sum_by f xs ≡ sum_by g xs
@@ -44,12 +44,11 @@ module _ (kinds : ℕ → DayKind) (rates : ℕ → Option ℕ) where
 
   pub growth-split : (from mid to : ℕ) → from ≤ mid → mid ≤ to → growth from to ≡ growth from mid * growth mid to
   growth-split from mid to h l =
-      ap (λ ds. product (factors rates ds)) (days-split is_reserve kinds from mid to h l)
-      ∙ ap product (map-append (factor_on rates) (reserve_days kinds from mid) (reserve_days kinds mid to))
-      ∙ product-append (factors rates (reserve_days kinds from mid)) (factors rates (reserve_days kinds mid to))
+      rw (days-split is_reserve kinds from mid to h l, map-append (factor_on rates) (reserve_days kinds from mid) (reserve_days kinds mid to))
+      (product-append (factors rates (reserve_days kinds from mid)) (factors rates (reserve_days kinds mid to)))
 
   pub growth-none : (day : ℕ) → growth day day ≡ 1
-  growth-none day = ap (λ ds. product (factors rates ds)) (days-none is_reserve kinds day day (omega arith))
+  growth-none day = rw (days-none is_reserve kinds day day (omega arith))
 
   module _ (first : ℕ) where
     -- 10^8 for each reserve day from the first
@@ -58,9 +57,8 @@ module _ (kinds : ℕ → DayKind) (rates : ℕ → Option ℕ) where
 
     pub unit-split : (x y : ℕ) → first ≤ x → x ≤ y → unit y ≡ unit x * 100000000 ^ length (reserve_days kinds x y)
     unit-split x y h l =
-        ap (λ n. 100000000 ^ n)
-        (ap length (days-split is_reserve kinds first x y h l) ∙ length-append (reserve_days kinds first x) (reserve_days kinds x y))
-        ∙ pow-add 100000000 (length (reserve_days kinds first x)) (length (reserve_days kinds x y))
+        rw (days-split is_reserve kinds first x y h l, length-append (reserve_days kinds first x) (reserve_days kinds x y))
+        (pow-add 100000000 (length (reserve_days kinds first x)) (length (reserve_days kinds x y)))
 
     -- carried further
     pub scale-on : (x y d : ℕ) → d ≤ x → x ≤ y → scale_of kinds rates first y d ≡ scale_of kinds rates first x d * growth x y
@@ -75,9 +73,7 @@ module _ (kinds : ℕ → DayKind) (rates : ℕ → Option ℕ) where
 
     days-drift-by : (n from to : ℕ) → to - from ≡ n → first ≤ from
         → carried_days to from ≡ unit from * drift (factors rates (reserve_days kinds from to))
-    days-drift-by zero from to e h =
-        let none = days-none is_reserve kinds from to (omega arith) in
-        rw none (sym (mul-zero (unit from)))
+    days-drift-by zero from to e h = rw (days-none is_reserve kinds from to (omega arith)) (sym (mul-zero (unit from)))
     days-drift-by (suc n) from to e h = by (is_reserve (kinds from)) refl (days-drift-by n (from + 1) to (omega arith) (omega arith))
       where
         l : from < to

@@ -79,11 +79,10 @@ total-on f scale further g (s ∷ ss) h =
 -- ---- sessions up to a day
 pub all-kept : (d : ℕ) (ss : List Session) → AllByRecursion (λ s. s.day ≤ d) ss → up_to d ss ≡ ss
 all-kept d [] h = refl
-all-kept d (s ∷ ss) h =
-    ap (λ b. cond b (s ∷ up_to d ss) (up_to d ss)) (le-leb s.day d h.0) ∙ ap (λ xs. s ∷ xs) (all-kept d ss h.1)
+all-kept d (s ∷ ss) h = rw (le-leb s.day d h.0, all-kept d ss h.1)
 
 later-left : (d : ℕ) (s : Session) (ss : List Session) → d < s.day → up_to d (s ∷ ss) ≡ up_to d ss
-later-left d s ss h = ap (λ b. cond b (s ∷ up_to d ss) (up_to d ss)) (lt-leb s.day d h)
+later-left d s ss h = rw (lt-leb s.day d h)
 
 pub oldest-first : (s : Session) (ss : List Session) → Falling (s ∷ ss) → oldest_day s.day ss ≤ s.day
 oldest-first s [] f = omega arith
@@ -217,16 +216,11 @@ module _ (w : World) (rates : ℕ → Option ℕ) (a m : ℕ) where
         let sum = total-on (λ x. x.amounts.adjustments a m) (scale s.day) (scale r.day) g (s ∷ ss) scaled in
         let cost = total-on (λ x. cost_of a m x.trades) (scale s.day) (scale r.day) g (s ∷ ss) scaled in
         let unit-r : k ≡ u * n = scale-here w.kinds rates first r.day ∙ unit-split w.kinds rates first s.day r.day l later in
-        let v : value_over (scale s.day) (p * scale s.day s.day) a m (s ∷ ss) ≡ q *ℤ pos (p * u) -ℤ y =
-        value-split a m (scale s.day) (p * scale s.day s.day) (s ∷ ss) ∙ ap (λ z. q *ℤ pos (p * z) -ℤ y) (scale-here w.kinds rates first s.day) in
-        let v' : value_over (scale r.day) (p' * k) a m (r ∷ s ∷ ss) ≡ (t +ℤ q) *ℤ pos (p' * k) -ℤ (c *ℤ pos k +ℤ y *ℤ pos g) =
-        value-split a m (scale r.day) (p' * k) (r ∷ s ∷ ss) ∙ ap (λ z. (t +ℤ q) *ℤ pos (p' * k) -ℤ (c *ℤ pos k +ℤ z)) cost in
-        let near' : 2 * nat_abs (x -ℤ (q *ℤ pos (p * u) -ℤ y)) ≤ held_over (scale s.day) a m (s ∷ ss) (reserve_days w.kinds first s.day) = rw v at near in
+        let v = value-split a m (scale s.day) (p * scale s.day s.day) (s ∷ ss) ∙ ap (λ z. q *ℤ pos (p * z) -ℤ y) (scale-here w.kinds rates first s.day) in
         let all = one_more x y q t c (r.amounts.adjustments a m) p p' u corrected g n k (drift (factors rates (reserve_days w.kinds s.day r.day)))
-        (held_over (scale s.day) a m (s ∷ ss) (reserve_days w.kinds first s.day)) unit-r cell near'
-        (subst (λ i. 2 * nat_abs (pos (p * g) -ℤ pos (corrected * 100000000 ^ i)) ≤ drift (factors rates (reserve_days w.kinds s.day r.day)))
-        (length-map (reserve_days w.kinds s.day r.day) (factor_on rates)) (rounded p (factors rates (reserve_days w.kinds s.day r.day)))) in
-        rw (v', sum, held_more r s ss f l) all
+        (held_over (scale s.day) a m (s ∷ ss) (reserve_days w.kinds first s.day)) unit-r cell (rw v at near)
+        (rw (length-map (reserve_days w.kinds s.day r.day) (factor_on rates)) at (rounded p (factors rates (reserve_days w.kinds s.day r.day)))) in
+        rw (value-split a m (scale r.day) (p' * k) (r ∷ s ∷ ss), cost, sum, held_more r s ss f l) all
 
     pub close : (s : Session) (ss : List Session) → Falling (s ∷ ss) → Ruled (s ∷ ss) → first ≡ oldest_day s.day ss → Close s ss
     close s [] f h e = start s h.0
