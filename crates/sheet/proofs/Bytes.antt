@@ -1,8 +1,7 @@
 -- Numbers as bytes, the lowest first, and back; parts of a list of bytes. Assumes nothing.
-use Rattle.std.proofs.Common.{◌≡◌, ℕ, zero, suc, ◌+◌, ◌-◌, ◌*◌, ◌/◌, ◌%◌, ◌^◌, ◌<◌, ◌≤◌, List, [], ◌∷◌, ◌++◌, map, length, get_or, take, drop, sym, refl, ap, ◌∙◌, subst, pow-suc, arith, take-add}
+use Rattle.std.proofs.Common.{◌≡◌, ℕ, zero, suc, ◌+◌, ◌-◌, ◌*◌, ◌/◌, ◌%◌, ◌^◌, ◌<◌, ◌≤◌, List, [], ◌∷◌, ◌++◌, length, take, drop, sym, refl, ap, ◌∙◌, subst, pow-suc, arith, take-add}
 use lib.Lanes.{chunk}
-use Rattle.std.specs.List.{range_with_len, AllByRecursion}
-use Rattle.std.proofs.lemmas.List.FromFn.{fill_by_all}
+use Rattle.std.specs.List.{AllByRecursion}
 use Rattle.std.proofs.lemmas.Nat.{div_below}
 use Rattle.std.proofs.lemmas.List.{drop_at, drop-drop, take-take, drop-take}
 use Rattle.sheet.specs.Sheet.{little, number}
@@ -36,10 +35,6 @@ little-four n =
     let a : n / 65536 ≡ n / 256 / 256 = omega arith in
     let b : n / 16777216 ≡ n / 256 / 256 / 256 = omega arith in
     cc
-
--- a number of k bytes, byte by byte
-pub number_read : (k : ℕ) (b : List ℕ) → length b ≡ k → number b ≡ number (map (λ i. get_or b i 0) (range_with_len 0 k))
-number_read k b e = ap number (fill_by_all (λ i. get_or b i 0) b k 0 e (λ _ _. refl))
 
 -- a part behind a front, a part within a front, a part of a part, a part in two
 pub chunk-past : {X : Type 0} (p q : List X) (n i k : ℕ) → length p ≡ n → chunk (n + i) k (p ++ q) ≡ chunk i k q

@@ -1,33 +1,21 @@
 -- From what reading found to what the bytes are. Assumes nothing.
-use Rattle.std.proofs.Common.{◌≡◌, ℕ, ◌+◌, ◌<◌, ◌≤◌, true, false, List, [], ◌∷◌, length, get_or, drop, is_some, Some, None, Ok, Err, Option, Result, inl, inr, sym, ap, ◌∙◌, subst, arith, w8, Fits, MatchOption}
+use Rattle.std.proofs.Common.{◌≡◌, ℕ, ◌+◌, ◌<◌, ◌≤◌, List, [], ◌∷◌, length, get_or, drop, Some, None, Ok, Err, Option, Result, inl, inr, sym, ap, ◌∙◌, subst, arith, w8, Fits, MatchOption}
 use Rattle.std.specs.Result as results
 use Rattle.std.proofs.ByRecursion.{All-from_get_or}
 use Rattle.std.specs.List.{slice_get}
-use Rattle.std.proofs.lemmas.Bool.{true≢false, false≢true}
 use Rattle.std.proofs.lemmas.List.{drop_all, drop_more}
 use Rattle.std.proofs.lemmas.Option.{slice_get_cases, slice_get_within, get_or_from_slice_get, none-some}
-use Rattle.sheet.specs.declared.code.ContractCode.{ContractCode}
 use Rattle.sheet.specs.declared.trade.Trade.{Trade}
 use Rattle.sheet.specs.declared.trade.SheetFault.{SheetFault}
 use Rattle.sheet.specs.declared.trade.SheetFault.TheVariants.{Length, Count, Day, Code}
 use Rattle.sheet.specs.declared.view.SheetView.{SheetView}
-use Rattle.sheet.specs.Codes.{month_of, IsCode, Names, NoCode}
+use Rattle.sheet.specs.Codes.{month_of, IsCode, NoCode}
 use Rattle.sheet.specs.Sheet.{sheet_bytes, Valid, Sheet, Refused, OnDay, most_trades, count_of, day_of, code_of, lines_of, trades_of}
 use Rattle.sheet.specs.Views.{view_bytes, view_day, view_count, view_trades, Sound, Accepted, Outcome, ReadsBack}
-use Rattle.sheet.proofs.CodeLaws.{is_code}
 use Rattle.sheet.proofs.SheetLaws.{Bytes, length-lines, written_back, read_back, read-valid}
 
 pub bytes-from-fits : (b : List ℕ) → ((i : ℕ) → Fits w8 (get_or b i 0)) → Bytes b
 bytes-from-fits b h = All-from_get_or (λ x. x < 256) b 0 (λ i _. (h i).fits)
-
--- a code that was found, or not
-pub code-found : (b : List ℕ) (r : Option ContractCode) → MatchOption r (NoCode b) (λ c. Names b c.month) → is_some r ≡ true → IsCode b
-code-found b None h e = absurd (false≢true e)
-code-found b (Some c) h e = subst IsCode (sym h.0) (is_code c.month c.coded)
-
-pub code-missed : (b : List ℕ) (r : Option ContractCode) → MatchOption r (NoCode b) (λ c. Names b c.month) → is_some r ≡ false → IsCode b → ⊥
-code-missed b None h e i = h (month_of b) i.0 i.1
-code-missed b (Some c) h e i = true≢false e
 
 pub trade-found : (b : List ℕ) (r : Option Trade) (t : Trade) → MatchOption r (NoCode b) (λ x. x ≡ t) → IsCode b → r ≡ Some t
 trade-found b None t h i = absurd (h (month_of b) i.0 i.1)

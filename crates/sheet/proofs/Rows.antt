@@ -3,7 +3,7 @@ use Rattle.std.proofs.Common.{◌≡◌, ℕ, zero, suc, ◌+◌, ◌-◌, ◌*�
 use borrow.Rule.Slice.PartMut.{put_mid}
 use lib.Lanes.{chunk}
 use Rattle.std.specs.List.{range_with_len, flat_map}
-use Rattle.std.proofs.lemmas.List.{take_at, drop_at, drop-drop, length-append, length-drop, take-append-drop, nil_from_length, flat_map_more, take_more, take_all, drop_all, append-nil, length-take-le}
+use Rattle.std.proofs.lemmas.List.{take_at, drop_at, drop-drop, length-append, length-drop, take-append-drop, nil_from_length, flat_map_more, take_more, drop_all, append-nil, length-take-le}
 use Rattle.sheet.proofs.Bytes.{chunk-past}
 
 module _ {X : Type 0} (f : X → List ℕ) (w : ℕ) (wide : (x : X) → length (f x) ≡ w) where
@@ -68,14 +68,6 @@ row_more f w wide xs d old out row i h r e =
     let p = part-more (flat_map f (take i xs)) old out row (w * i) w l e in
     let n = take_more xs i d h in
     let j = flat_map_more f [] (take i xs) (get_or xs i d) in
-    cc
-
--- all rows
-pub rows_all : {X : Type 0} (f : X → List ℕ) (w : ℕ) (xs : List X) (old out : List ℕ) (i : ℕ) → length old ≡ w * length xs → i ≡ length xs
-    → out ≡ flat_map f (take i xs) ++ drop (w * i) old → out ≡ flat_map f xs
-rows_all f w xs old out i l n e =
-    let t = take_all (length xs) xs (omega arith) in
-    let d = nothing_left (flat_map f xs) old (w * length xs) l in
     cc
 
 -- three parts, one behind the other
