@@ -1,6 +1,6 @@
 -- What the rules have seen where they accept an event.
-use Rattle.std.proofs.Common.{◌≡◌, ℕ, ◌<◌, ◌≤◌, Bool, true, false, cond, not, ◌&&◌, eqb, ltb, leb, List, [], ◌∷◌, length, pos, ◌+ℤ◌, ◌-ℤ◌, nat_abs, is_some as option_is_some, Some, None, Option, unwrap_or, refl, ap, arith}
-use Rattle.std.proofs.lemmas.Bool.{true≢false, not-false, ltb-true, ltb-false, leb-false, eqb-false, and_parts, or_parts}
+use Rattle.std.proofs.Common.{◌≡◌, ℕ, ◌<◌, ◌≤◌, Bool, true, false, cond, not, leb, List, [], ◌∷◌, length, pos, ◌+ℤ◌, ◌-ℤ◌, nat_abs, is_some as option_is_some, Some, None, Option, unwrap_or, refl, ap, arith}
+use Rattle.std.proofs.lemmas.Bool.{true≢false, leb-false, eqb-false, or_parts}
 use Rattle.std.proofs.lemmas.Bool.Decides.{nat_tests}
 use Rattle.calendar.specs.Spans.{expiry_of}
 use Rattle.correction.specs.Gaps.{first_unrated}
@@ -9,10 +9,10 @@ use Rattle.settlement.specs.declared.trades.Trade.{Trade}
 use Rattle.model.specs.declared.accounts.Account.{Account}
 use Rattle.model.specs.World.{World}
 use Rattle.model.specs.History.{History, Amounts, Entered, Listed, Published, Arbitrated, Opened, Traded, Marked, Paid, written, newest}
-use Rattle.model.specs.Observed.{accounts_of, months_of, is_account, is_listed, expiry_at, rate_on, latest_opened, session_day, in_session, open_session, trades_of}
+use Rattle.model.specs.Observed.{accounts_of, months_of, expiry_at, rate_on, latest_opened, session_day, in_session, open_session, trades_of}
 use Rattle.model.specs.Sessions.{sessions_of, unpaid_day, gap_to}
 use Rattle.model.specs.Positions.{position_of}
-use Rattle.model.specs.Rows.{Paper, is_of, lacks_expiry, enter_rows, list_rows, publish_rows, arbitrate_rows, open_rows, trade_rows, mark_rows, close_rows, pay_rows, is_over}
+use Rattle.model.specs.Rows.{Paper, is_of, lacks_expiry, enter_rows, list_rows, publish_rows, arbitrate_rows, open_rows, trade_rows, mark_rows, close_rows, pay_rows}
 use Rattle.model.specs.Lawful.{Allowed, Accepts, Closes}
 
 first-none : {X : Type 0} (b : Bool) (x : X) (o : Option X) → cond b (Some x) o ≡ None → (b ≡ false) × (o ≡ None)

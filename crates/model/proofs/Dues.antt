@@ -7,7 +7,7 @@ use Rattle.std.proofs.lemmas.Bool.{true≢false}
 use Rattle.settlement.specs.Sums.{total}
 use Rattle.settlement.proofs.Totals.{total-append}
 use Rattle.model.specs.World.{World}
-use Rattle.model.specs.History.{History, Event, Amounts, Closed, written, is_payment, or_else, list_of, gather, newest, since, before}
+use Rattle.model.specs.History.{History, Event, Amounts, Closed, written, is_payment, or_else, list_of, gather, newest, since}
 use Rattle.model.specs.Positions.{written_for, due_of}
 use Rattle.model.specs.Sessions.{latest_closed}
 use Rattle.model.specs.Lawful.{Lawful}
@@ -92,9 +92,7 @@ only {X} tells (e ∷ h) x f n = by (tells e) f n (only tells h x)
     by : (o : Option X) → length (gather tells h ++ list_of o) ≤ 1 → or_else o (newest tells h) ≡ Some x
         → (length (gather tells h) ≤ 1 → newest tells h ≡ Some x → gather tells h ≡ x ∷ []) → gather tells h ++ list_of o ≡ x ∷ []
     by None f n ih = append-nil (gather tells h) ∙ ih (rw (append-nil (gather tells h)) at f) n
-    by (Some y) f n ih =
-        let same : y ≡ x = cc in
-        ap (λ xs. xs ++ y ∷ []) (nil_from_length (gather tells h) (omega (arith, length_push (gather tells h) y))) ∙ ap (λ z. z ∷ []) same
+    by (Some y) f n ih = rw (nil_from_length (gather tells h) (omega (arith, length_push (gather tells h) y))) cc
 
 pub pays-latest : PaysLatest
 pays-latest w h c l n a = by (newest written (since is_payment h)) refl (paying w h l.0).1

@@ -1,17 +1,16 @@
 -- After the last session of a month its adjustments are 0.
-use Rattle.std.proofs.Common.{◌≡◌, ℕ, ◌<◌, ◌≤◌, true, ◌⊎◌, List, [], ◌∷◌, ◌++◌, length, get_or, pos, ◌+ℤ◌, Some, ap, ◌∙◌, ap₂, inl, inr, arith}
+use Rattle.std.proofs.Common.{◌≡◌, ℕ, ◌<◌, ◌≤◌, true, ◌⊎◌, List, [], ◌∷◌, ◌++◌, length, get_or, pos, Some, ap, ◌∙◌, inl, inr, arith}
 use Rattle.std.specs.List.{AllByRecursion}
 use Rattle.std.proofs.ByRecursion.{All-push, All-weaker}
 use Rattle.std.proofs.lemmas.List.{append-nil, length_push, get_or_push, get_or_append_left}
-use Rattle.std.proofs.lemmas.Bool.{cases_lt, lt-ltb, ne_eqb, and_from, cond-true}
+use Rattle.std.proofs.lemmas.Bool.{cases_lt, lt-ltb, ne_eqb, and_from}
 use Rattle.pricing.specs.Pricing.{expiry_day}
 use Rattle.settlement.specs.declared.trades.Trade.{Trade}
-use Rattle.settlement.specs.Amounts.{gain_of}
 use Rattle.settlement.specs.Trades.{contracts_of}
 use Rattle.model.specs.History.{History, Event, Amounts, Listed, Opened, Traded, Closed}
 use Rattle.model.specs.Lawful.{Lawful}
 use Rattle.model.specs.Observed.{accounts_of, months_of, is_listed, expiry_at, rate_on, opened_days, latest_opened, open_session, next_from, session_day, trades_of, settlement_price}
-use Rattle.model.specs.Positions.{has_ended, contracts_in, corrected_to, adjustment_at}
+use Rattle.model.specs.Positions.{has_ended, corrected_to, adjustment_at}
 use Rattle.model.specs.Sessions.{Session, sessions_of, has_reached}
 use Rattle.model.specs.World.{World}
 use Rattle.model.proofs.Allowing.{open-on, trading, closing}

@@ -1,5 +1,5 @@
 -- No position passes 500,000 contracts.
-use Rattle.std.proofs.Common.{◌≡◌, ℕ, ◌<◌, ◌≤◌, Bool, true, false, cond, ◌&&◌, eqb, ltb, leb, ◌⊎◌, List, [], ◌∷◌, ◌++◌, length, get_or, ℤ, pos, ◌+ℤ◌, ◌-ℤ◌, nat_abs, sym, refl, ◌∙◌, subst, subst₂, inl, inr, arith}
+use Rattle.std.proofs.Common.{◌≡◌, ℕ, ◌<◌, ◌≤◌, Bool, true, false, cond, ◌&&◌, eqb, ltb, leb, List, [], ◌∷◌, ◌++◌, length, get_or, ℤ, pos, ◌+ℤ◌, ◌-ℤ◌, nat_abs, sym, refl, ◌∙◌, inl, inr, arith}
 use borrow.Author.Differences.{ints}
 use Rattle.std.specs.List.{AllByRecursion}
 use Rattle.std.proofs.lemmas.List.{append-nil, length_push, get_or_append_left}
@@ -32,8 +32,6 @@ trade-within held a m t apart buys sells k = by (eqb t.month m) (eqb t.seller a)
   where
     by : (x y z : Bool) → eqb t.month m ≡ x → eqb t.seller a ≡ y → eqb t.buyer a ≡ z
         → Within (held a m +ℤ (pos (cond (x && y) t.quantity 0) -ℤ pos (cond (x && z) t.quantity 0)))
-    by false y z e f g = omega (arith, ints)
-    by true false false e f g = omega (arith, ints)
     by true true false e f g =
         let s : Within (held a m +ℤ pos t.quantity) = rw (eqb-true t.month m e, eqb-true t.seller a f) at sells in
         omega (arith, ints)
@@ -41,6 +39,7 @@ trade-within held a m t apart buys sells k = by (eqb t.month m) (eqb t.seller a)
         let b : Within (held a m -ℤ pos t.quantity) = rw (eqb-true t.month m e, eqb-true t.buyer a g) at buys in
         omega (arith, ints)
     by true true true e f g = absurd (apart (eqb-true t.buyer a g ∙ sym (eqb-true t.seller a f)))
+    by x y z e f g = omega (arith, ints)
 
 -- whether a month has expired, by the months and the closed sessions, and what is held of it: 0 once it has
 abbrev pub expired_by : World → ℕ → List ℕ → List Session → Bool
@@ -70,13 +69,13 @@ module _ (w : World) (m : ℕ) (months : List ℕ) (ss : List Session) (raw : �
 
   -- a month more
   pub listing-within : (n : ℕ) → Within (held_by w m (months ++ n ∷ []) ss raw)
-  listing-within n = by (cases_lt m (length months))
-    where
-      by : (m < length months) ⊎ (length months ≤ m) → Within (held_by w m (months ++ n ∷ []) ss raw)
-      by (inl lt) =
-          rw (lt-ltb m (length (months ++ n ∷ [])) (rw (length_push months n) (omega arith)), get_or_append_left months (n ∷ []) 0 m lt)
-          (rw (lt-ltb m (length months) lt) at k)
-      by (inr le) = cond-within (expired_by w m (months ++ n ∷ []) ss) raw (held (unlisted w m months ss le))
+  listing-within n =
+      elim (cases_lt m (length months)) [
+        | inl lt ↦
+            rw (lt-ltb m (length (months ++ n ∷ [])) (rw (length_push months n) (omega arith)), get_or_append_left months (n ∷ []) 0 m lt)
+            (rw (lt-ltb m (length months) lt) at k)
+        | inr le ↦ cond-within (expired_by w m (months ++ n ∷ []) ss) raw (held (unlisted w m months ss le))
+      ]
 
   -- a session more, later than those before it
   closing-within : (s : Session) → AllByRecursion (λ r. r.day < s.day) ss → Within (held_by w m (months ++ []) (s ∷ ss) raw)

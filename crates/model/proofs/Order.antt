@@ -1,9 +1,10 @@
 -- The order of the sessions: each is later than all before it.
 use Rattle.std.proofs.Common.{◌≡◌, ℕ, ◌+◌, ◌<◌, true, eqb, leb, ◌⊎◌, List, [], ◌∷◌, ◌++◌, Some, None, Option, sym, refl, ap, ◌∙◌, subst, inl, inr, arith}
 use Rattle.std.specs.List.{AllByRecursion}
-use Rattle.std.proofs.ByRecursion.{All-push, All-weaker}
+use Rattle.std.proofs.lemmas.Bool.Decides.{Decides-eqb, Decides-by_or}
+use Rattle.std.proofs.ByRecursion.{All-get_or, All-push, All-weaker}
 use Rattle.std.proofs.lemmas.List.{append-nil}
-use Rattle.std.proofs.lemmas.Bool.{true≢false, eqb-true, le-leb, or_cases}
+use Rattle.std.proofs.lemmas.Bool.{le-leb}
 use Rattle.calendar.specs.Kinds.{is_session}
 use Rattle.calendar.specs.Spans.{First}
 use Rattle.calendar.proofs.Spans.{is-first}
@@ -19,12 +20,9 @@ use Rattle.model.proofs.Falling.{Falling}
 
 -- what holds of one of the numbers of a list
 pub all_among : (P : ℕ → Type 0) (x : ℕ) (xs : List ℕ) → AllByRecursion P xs → is_among eqb x xs ≡ true → P x
-all_among P x [] a h = absurd (true≢false (sym h))
-all_among P x (y ∷ ys) a h =
-    elim (or_cases (eqb x y) (is_among eqb x ys) h) [
-      | inl e ↦ rw (eqb-true x y e) a.0
-      | inr e ↦ all_among P x ys a.1 e
-    ]
+all_among P x xs a h =
+    let o = (Decides-by_or (eqb x) (λ y. x ≡ y) (is_among eqb x) (Decides-eqb x) refl (λ _ _. refl) xs).0 h in
+    rw (o.2 x) (All-get_or P xs o.0 x o.1 a)
 
 -- the opened days, the latest of them, the open session and the closed sessions are in order
 pub record InOrder (w : World) (days : List ℕ) (latest now : Option ℕ) (ss : List Session) : Type 0 where

@@ -1,9 +1,8 @@
 -- A rate once known stays.
-use Rattle.std.proofs.Common.{◌≡◌, ℕ, Bool, true, false, cond, not, eqb, List, [], ◌∷◌, ◌++◌, is_some, Some, None, filter, Option, unwrap_or, sym, refl, ap, ◌∙◌, ap₂}
+use Rattle.std.proofs.Common.{◌≡◌, ℕ, Bool, true, false, cond, not, eqb, List, [], ◌∷◌, ◌++◌, is_some, Some, None, filter, Option, sym, refl, ap, ◌∙◌}
 use Rattle.std.proofs.lemmas.Bool.{eqb-true}
 use Rattle.std.proofs.lemmas.Option.{none-some}
 use Rattle.calendar.specs.Spans.{first_in}
-use Rattle.interest.specs.Price.{day_factor}
 use Rattle.correction.specs.Gaps.{factors, is_unrated, first_unrated}
 use Rattle.model.specs.History.{History, Event, Published, Arbitrated, rated, newest, or_else}
 use Rattle.model.specs.Lawful.{Lawful}

@@ -1,5 +1,5 @@
 -- What the close of a session can rely on: positions, prices and the gap are small.
-use Rattle.std.proofs.Common.{◌≡◌, ℕ, ◌+◌, ◌-◌, ◌*◌, ◌^◌, ◌<◌, ◌≤◌, Bool, true, false, cond, eqb, List, [], ◌∷◌, ◌++◌, map, length, pos, ◌+ℤ◌, ◌-ℤ◌, nat_abs, Some, None, Option, unwrap_or, sym, refl, ap, ◌∙◌, subst, inl, inr, mul-le-mul_left, arith}
+use Rattle.std.proofs.Common.{◌≡◌, ℕ, ◌+◌, ◌-◌, ◌*◌, ◌^◌, ◌<◌, ◌≤◌, Bool, true, false, cond, eqb, List, [], ◌∷◌, map, length, pos, ◌+ℤ◌, ◌-ℤ◌, nat_abs, Some, None, Option, unwrap_or, sym, refl, ap, ◌∙◌, inl, inr, mul-le-mul_left, arith}
 use borrow.Author.Differences.{ints}
 use Rattle.std.specs.List.{range_with_len, AllByRecursion}
 use Rattle.std.proofs.lemmas.List.FromFn.{length-range_with_len}
@@ -25,7 +25,7 @@ use Rattle.model.proofs.Allowing.{open-on, marking, opening, closing}
 use Rattle.model.proofs.Dealt.{dealt-split}
 use Rattle.model.proofs.Cells.{total-none}
 use Rattle.model.proofs.Ended.{other-months}
-use Rattle.model.proofs.Limits.{Within, held_by, cond-within, unreached, silent, listing-within, positions-limited}
+use Rattle.model.proofs.Limits.{cond-within, unreached, silent, listing-within, positions-limited}
 use Rattle.model.proofs.Order.{next-first, open-later}
 
 -- an expired month expired before the open session
@@ -119,7 +119,7 @@ pub gap-short : (w : World) (h : History) (d : ℕ) → Lawful w h → open_sess
 gap-short w [] d l o = absurd cc
 gap-short w (Opened x ∷ h) d l o =
     let q : x ≡ d = cc in
-    subst (λ y. length (gap_to w y (sessions_of w h)) ≤ 60) q
+    rw (sym q)
     (first_short w x (sessions_of w h) (latest_opened h) (closed-latest w h l.1 (opening w h x l.0)) (next-first w h x l))
 gap-short w (Closed c ∷ h) d l o = absurd cc
 gap-short w (e ∷ h) d l o = gap-short w h d l.1 o

@@ -1,5 +1,5 @@
 -- What amounts are multiplied by: products of factors and powers of 10^8 over joined ranges of days.
-use Rattle.std.proofs.Common.{◌≡◌, ℕ, zero, suc, ◌+◌, ◌-◌, ◌*◌, ◌^◌, ◌<◌, ◌≤◌, Bool, true, false, cond, List, [], ◌∷◌, ◌++◌, length, sum_by, Option, sym, refl, ap, ◌∙◌, mul_assoc, add-mul, one-mul, pow-suc, mul-zero, zero-mul, mul-one, add-one, add-zero, arith, pow-add}
+use Rattle.std.proofs.Common.{◌≡◌, ℕ, zero, suc, ◌+◌, ◌-◌, ◌*◌, ◌^◌, ◌<◌, ◌≤◌, Bool, true, false, List, [], ◌∷◌, ◌++◌, length, sum_by, Option, sym, refl, ap, ◌∙◌, mul_assoc, add-mul, one-mul, pow-suc, mul-zero, zero-mul, mul-one, add-one, add-zero, arith, pow-add}
 use Rattle.std.specs.List.{range_with_len, AllByRecursion}
 use Rattle.std.proofs.ByRecursion.{All-from_get_or, all_kept_by}
 use Rattle.std.proofs.lemmas.List.FromFn.{length-range_with_len, get_or-range_with_len}

@@ -1,5 +1,5 @@
 -- The value of trades against the adjustments of their sessions: session after session, all but the rounding cancels.
-use Rattle.std.proofs.Common.{◌≡◌, ℕ, ◌+◌, ◌*◌, ◌^◌, ◌<◌, ◌≤◌, cond, List, [], ◌∷◌, length, ℤ, pos, ◌+ℤ◌, ◌-ℤ◌, ◌*ℤ◌, nat_abs, sum_by, Option, sym, refl, ap, ◌∙◌, subst, mul_assoc, mul_comm, mul-le-mul_left, arith}
+use Rattle.std.proofs.Common.{◌≡◌, ℕ, ◌+◌, ◌*◌, ◌^◌, ◌<◌, ◌≤◌, List, [], ◌∷◌, length, ℤ, pos, ◌+ℤ◌, ◌-ℤ◌, ◌*ℤ◌, nat_abs, sum_by, Option, sym, refl, ap, ◌∙◌, mul_assoc, mul_comm, mul-le-mul_left, arith}
 use mathlib.Core.Path.{fun_ext}
 use lib.IntN.{+ℤ_idr, zero-*ℤ}
 use borrow.Author.Differences.{ints}

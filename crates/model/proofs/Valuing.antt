@@ -1,5 +1,5 @@
 -- Lawful closes settle by the rules, session after session; so the second claim holds of every lawful history.
-use Rattle.std.proofs.Common.{◌≡◌, ℕ, ◌<◌, ◌≤◌, Bool, true, false, cond, ◌&&◌, leb, List, [], ◌∷◌, length, pos, None, Option, sym, refl, ap, ◌∙◌, arith}
+use Rattle.std.proofs.Common.{◌≡◌, ℕ, ◌<◌, ◌≤◌, Bool, true, false, cond, ◌&&◌, leb, List, [], ◌∷◌, length, None, Option, sym, refl, ap, ◌∙◌, arith}
 use borrow.Author.Differences.{ints}
 use Rattle.std.specs.List.{AllByRecursion}
 use Rattle.std.proofs.ByRecursion.{All-weaker}
@@ -8,12 +8,11 @@ use Rattle.std.proofs.lemmas.Bool.{ltb-true, leb-true}
 use Rattle.calendar.specs.Spans.{reserve_days}
 use Rattle.correction.specs.Gaps.{first_unrated}
 use Rattle.interest.specs.Correction.{corrected}
-use Rattle.settlement.specs.Amounts.{adjustment_of}
 use Rattle.model.specs.World.{World}
 use Rattle.model.specs.History.{History, Event, Amounts, Closed, listed, list_of}
 use Rattle.model.specs.Observed.{months_of, is_listed, expiry_at, rate_on, session_day, trades_of, settlement_price}
 use Rattle.model.specs.Sessions.{Session, sessions_of, up_to, has_reached, gap_to, oldest_day}
-use Rattle.model.specs.Positions.{has_ended, contracts_in, corrected_to}
+use Rattle.model.specs.Positions.{has_ended, corrected_to}
 use Rattle.model.specs.Lawful.{Lawful}
 use Rattle.model.specs.Value.{NearFrom, AlwaysValued}
 use Rattle.model.proofs.Allowing.{closing}
