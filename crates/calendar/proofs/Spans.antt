@@ -1,5 +1,7 @@
 -- Laws of the days of a range.
-use Rattle.std.proofs.Common.{◌≡◌, ℕ, zero, suc, ◌+◌, ◌-◌, ◌<◌, ◌≤◌, min, Bool, true, false, cond, List, [], ◌∷◌, ◌++◌, length, IfSome, Some, None, filter, Option, option_map, sym, refl, ap, ◌∙◌, add-zero, arith}
+use Rattle.std.proofs.Common.{◌≡◌, ℕ, zero, suc, ◌+◌, ◌-◌, ◌<◌, ◌≤◌, min, Bool, true, false, cond, List, [], ◌∷◌, ◌++◌, length, IfSome, Some, None, filter, Option, option_map, sym, refl, ap, ◌∙◌, inl, inr, arith}
+use Rattle.std.proofs.lemmas.Bool.{true≢false, cases_lt, cases_eq}
+use Rattle.std.proofs.lemmas.Iterator.Adapters.{option_map_id}
 use Rattle.std.proofs.lemmas.List.{append-nil, length-append}
 use Rattle.std.specs.List.{range_with_len, find}
 use Rattle.calendar.specs.declared.kind.DayKind.{DayKind}
@@ -24,67 +26,47 @@ join : (b : Bool) (d : ℕ) (xs ys : List ℕ) → cond b (d ∷ (xs ++ ys)) (xs
 join true d xs ys = refl
 join false d xs ys = refl
 
-split : (t : DayKind → Bool) (k : ℕ → DayKind) (n from to : ℕ) → from + n ≤ to
-    → days_by t k from to ≡ days_by t k from (from + n) ++ days_by t k (from + n) to
-split t k zero from to h =
-    let e : days_by t k from (from + 0) ≡ [] = days-none t k from (from + 0) (omega arith) in
-    rw e (rw add-zero refl)
-split t k (suc n) from to h =
-    let l : from < to = omega arith in
-    let m : from < from + suc n = omega arith in
-    let a : (from + 1) + n ≡ from + suc n = omega arith in
-    let s : days_by t k (from + 1) to ≡ days_by t k (from + 1) (from + suc n) ++ days_by t k (from + suc n) to =
-    rw a at (split t k n (from + 1) to (omega arith)) in
-    days-head t k from to l
-    ∙ ap (λ xs. cond (t (k from)) (from ∷ xs) xs) s
-    ∙ join (t (k from)) from (days_by t k (from + 1) (from + suc n)) (days_by t k (from + suc n) to)
-    ∙ ap (λ xs. xs ++ days_by t k (from + suc n) to) (sym (days-head t k from (from + suc n) m))
+split : (t : DayKind → Bool) (k : ℕ → DayKind) (n from mid to : ℕ) → mid - from ≡ n → from ≤ mid → mid ≤ to
+    → days_by t k from to ≡ days_by t k from mid ++ days_by t k mid to
+split t k zero from mid to e h l = let s : from ≡ mid = omega arith in rw (days-none t k from mid (omega arith), s)
+split t k (suc n) from mid to e h l =
+    rw (days-head t k from to (omega arith), days-head t k from mid (omega arith), split t k n (from + 1) mid to (omega arith) (omega arith) l)
+    (join (t (k from)) from (days_by t k (from + 1) mid) (days_by t k mid to))
 
 -- a range is its first part and the rest
 pub days-split : (t : DayKind → Bool) (k : ℕ → DayKind) (from mid to : ℕ) → from ≤ mid → mid ≤ to
     → days_by t k from to ≡ days_by t k from mid ++ days_by t k mid to
-days-split t k from mid to h l =
-    let e : from + (mid - from) ≡ mid = omega arith in rw e at (split t k (mid - from) from to (omega arith))
+days-split t k from mid to h l = split t k (mid - from) from mid to refl h l
 
 -- one day more at the end
 pub days-more : (t : DayKind → Bool) (k : ℕ → DayKind) (from day : ℕ) → from ≤ day
     → days_by t k from (day + 1) ≡ days_by t k from day ++ cond (t (k day)) (day ∷ []) []
 days-more t k from day h =
-    let e : days_by t k (day + 1) (day + 1) ≡ [] = days-none t k (day + 1) (day + 1) (omega arith) in
-    days-split t k from day (day + 1) h (omega arith)
-    ∙ ap (λ xs. days_by t k from day ++ xs)
-    (days-head t k day (day + 1) (omega arith) ∙ ap (λ xs. cond (t (k day)) (day ∷ xs) xs) e)
+    rw (days-split t k from day (day + 1) h (omega arith), days-head t k day (day + 1) (omega arith), days-none t k (day + 1) (day + 1) (omega arith))
 
-no-days : (t : DayKind → Bool) (k : ℕ → DayKind) (n from : ℕ) → ((d : ℕ) → from ≤ d → t (k d) ≡ false) → days_by t k from (from + n) ≡ []
-no-days t k zero from h = days-none t k from (from + 0) (omega arith)
-no-days t k (suc n) from h =
-    let e : (from + 1) + n ≡ from + suc n = omega arith in
-    let r : days_by t k (from + 1) (from + suc n) ≡ [] = rw e at (no-days t k n (from + 1) (λ d l. h d (omega arith))) in
-    days-head t k from (from + suc n) (omega arith) ∙ ap (λ b. cond b (from ∷ days_by t k (from + 1) (from + suc n)) (days_by t k (from + 1) (from + suc n))) (h from (omega arith)) ∙ r
+no-days : (t : DayKind → Bool) (k : ℕ → DayKind) (n from to : ℕ) → to - from ≡ n → ((d : ℕ) → from ≤ d → t (k d) ≡ false) → days_by t k from to ≡ []
+no-days t k zero from to e h = days-none t k from to (omega arith)
+no-days t k (suc n) from to e h =
+    rw (days-head t k from to (omega arith), h from (omega arith)) (no-days t k n (from + 1) to (omega arith) (λ d l. h d (omega arith)))
 
 -- a range has none of the days if none passes from its start on
 pub days-never : (t : DayKind → Bool) (k : ℕ → DayKind) (from to : ℕ) → ((d : ℕ) → from ≤ d → t (k d) ≡ false) → days_by t k from to ≡ []
-days-never t k from to h = by (to - from) refl
-  where
-    by : (n : ℕ) → to - from ≡ n → days_by t k from to ≡ []
-    by zero e = days-none t k from to (omega arith)
-    by (suc n) e = let f : from + suc n ≡ to = omega arith in rw f at (no-days t k (suc n) from h)
+days-never t k from to h = no-days t k (to - from) from to refl h
 
 -- what a range has past a day from which on none passes is nothing
 pub days-end : (t : DayKind → Bool) (k : ℕ → DayKind) (end from to : ℕ) → ((d : ℕ) → end ≤ d → t (k d) ≡ false)
     → days_by t k from to ≡ days_by t k from (min to end)
-days-end t k end from to h = by (to - end) (end - from) refl refl
-  where
-    by : (m n : ℕ) → to - end ≡ m → end - from ≡ n → days_by t k from to ≡ days_by t k from (min to end)
-    by zero n e f = let g : min to end ≡ to = omega arith in ap (days_by t k from) (sym g)
-    by (suc m) zero e f =
-        days-never t k from to (λ d l. h d (omega arith)) ∙ sym (days-none t k from (min to end) (omega arith))
-    by (suc m) (suc n) e f =
-        let g : min to end ≡ end = omega arith in
-        days-split t k from end to (omega arith) (omega arith)
-        ∙ ap (λ xs. days_by t k from end ++ xs) (days-never t k end to h)
-        ∙ append-nil (days_by t k from end)
-        ∙ ap (days_by t k from) (sym g)
+days-end t k end from to h =
+    elim (cases_lt end to) [
+      | inl l ↦
+          let g : min to end ≡ end = omega arith in
+          elim (cases_lt from end) [
+            | inl m ↦
+                rw (g, days-split t k from end to (omega arith) (omega arith), days-never t k end to h) (append-nil (days_by t k from end))
+            | inr m ↦ rw (g, days-never t k from to (λ d l. h d (omega arith)), days-none t k from end m)
+          ]
+      | inr l ↦ let g : min to end ≡ to = omega arith in rw g
+    ]
 
 -- the number of days with one day more
 pub count-more : (t : DayKind → Bool) (k : ℕ → DayKind) (from day : ℕ) → from ≤ day
@@ -120,17 +102,13 @@ pub session-past : (k : ℕ → DayKind) → ((d : ℕ) → 36524 < d → k d �
 session-past k ends from to h = ap first_in (days-never is_session k from to (λ d l. past-last k ends is_session refl d (omega arith)))
 
 -- a day before the first session of the rest is none, if the first day is none
+later : (k : ℕ → DayKind) (from to : ℕ) → is_session (k from) ≡ false → ((d : ℕ) → from + 1 ≤ d → d < to → is_session (k d) ≡ false)
+    → (d : ℕ) → from ≤ d → d < to → is_session (k d) ≡ false
+later k from to f a d l m = elim (cases_eq d from) [ inl e ↦ rw e f | inr n ↦ a d (omega arith) m ]
+
 cover : (k : ℕ → DayKind) (from to : ℕ) → is_session (k from) ≡ false → (r : Option ℕ) → First k (from + 1) to r → First k from to r
-cover k from to f None a = λ d l m. at d l m (d - from) refl
-  where
-    at : (d : ℕ) → from ≤ d → d < to → (j : ℕ) → d - from ≡ j → is_session (k d) ≡ false
-    at d l m zero g = let s : d ≡ from = omega arith in ap (λ x. is_session (k x)) s ∙ f
-    at d l m (suc j) g = a d (omega arith) m
-cover k from to f (Some s) a = (let l = a.0 in omega arith, a.1, a.2, λ d l m. at d l m (d - from) refl)
-  where
-    at : (d : ℕ) → from ≤ d → d < s → (j : ℕ) → d - from ≡ j → is_session (k d) ≡ false
-    at d l m zero g = let s : d ≡ from = omega arith in ap (λ x. is_session (k x)) s ∙ f
-    at d l m (suc j) g = a.3 d (omega arith) m
+cover k from to f None a = later k from to f a
+cover k from to f (Some s) a = (omega (arith, a.0), a.1, a.2, later k from s f a.3)
 
 -- the first of the sessions of a range is a session with none before it
 firsts : (k : ℕ → DayKind) (n from to : ℕ) → to - from ≡ n → First k from to (first_session k from to)
@@ -140,12 +118,9 @@ firsts k (suc n) from to e = by (is_session (k from)) refl (firsts k n (from + 1
     lt : from < to
     lt = omega arith
 
-    step : (b : Bool) → is_session (k from) ≡ b → first_session k from to ≡ first_in (cond b (from ∷ days_by is_session k (from + 1) to) (days_by is_session k (from + 1) to))
-    step b f = ap first_in (days-head is_session k from to lt ∙ ap (λ b. cond b (from ∷ days_by is_session k (from + 1) to) (days_by is_session k (from + 1) to)) f)
-
     by : (b : Bool) → is_session (k from) ≡ b → First k (from + 1) to (first_session k (from + 1) to) → First k from to (first_session k from to)
-    by true f later = rw (step true f) ((omega arith, lt, f, λ d l m. absurd (omega arith)))
-    by false f later = rw (step false f) (cover k from to f (first_session k (from + 1) to) later)
+    by true f later = rw (days-head is_session k from to lt, f) ((omega arith, lt, f, λ d l m. absurd (omega arith)))
+    by false f later = rw (days-head is_session k from to lt, f) (cover k from to f (first_session k (from + 1) to) later)
 
 pub is-first : (k : ℕ → DayKind) (from to : ℕ) (r : Option ℕ) → r ≡ first_session k from to → First k from to r
 is-first k from to r e = rw e (firsts k (to - from) from to refl)
@@ -153,14 +128,8 @@ is-first k from to r e = rw e (firsts k (to - from) from to refl)
 -- a session is a day of the calendar
 pub first-bound : (k : ℕ → DayKind) → ((d : ℕ) → 36524 < d → k d ≡ Closed) → (from to : ℕ) (r : Option ℕ) → First k from to r → IfSome r (λ d. d ≤ 36524)
 first-bound k ends from to None a = tt
-first-bound k ends from to (Some s) a = by (s - 36524) refl
-  where
-    by : (n : ℕ) → s - 36524 ≡ n → s ≤ 36524
-    by zero e = omega arith
-    by (suc n) e = absurd (clash (sym a.2 ∙ past-last k ends is_session refl s (omega arith)))
-      where
-        clash : true ≡ false → ⊥
-        clash q = let z : ◌≡◌ {A = ℕ} 0 1 = cc in omega arith
+first-bound k ends from to (Some s) a =
+    elim (cases_lt 36524 s) [ inl l ↦ absurd (true≢false (sym a.2 ∙ past-last k ends is_session refl s (omega arith))) | inr l ↦ l ]
 
 -- the first day that a search finds is the first of those that pass
 found-first : (t : ℕ → Bool) (ds : List ℕ) → find t ds ≡ first_in (filter t ds)
@@ -171,13 +140,9 @@ found-first t (d ∷ ds) = by (t d) (found-first t ds)
     by true e = refl
     by false e = e
 
-same : (r : Option ℕ) → option_map (λ d. d) r ≡ r
-same None = refl
-same (Some d) = refl
-
 -- what a search of a range to the end of the calendar finds
 pub session-found : (k : ℕ → DayKind) → ((d : ℕ) → 36524 < d → k d ≡ Closed) → (from to end : ℕ) (r : Option ℕ) → end ≡ min to 36525
     → option_map (λ d. d) r ≡ find (λ d. is_session (k d)) (range_with_len from (end - from)) → r ≡ first_session k from to
 unfolding days_by
 session-found k ends from to end r e found =
-    sym (same r) ∙ found ∙ found-first (λ d. is_session (k d)) (range_with_len from (end - from)) ∙ sym (session-ends k ends from to end e)
+    sym (option_map_id r) ∙ found ∙ found-first (λ d. is_session (k d)) (range_with_len from (end - from)) ∙ sym (session-ends k ends from to end e)

@@ -16,23 +16,6 @@ pub length_bound : (m : ℕ) → (28 ≤ month_length m) × (month_length m ≤ 
 unfolding month_length
 length_bound m = grind (arith, nat_tests)
 
--- what holds of each of the twelve months
-by-month : (P : ℕ → Type 0) → P 0 → P 1 → P 2 → P 3 → P 4 → P 5 → P 6 → P 7 → P 8 → P 9 → P 10 → P 11
-    → (k : ℕ) → k < 12 → P k
-by-month P a b c d e f g h i j k l zero lt = a
-by-month P a b c d e f g h i j k l (suc zero) lt = b
-by-month P a b c d e f g h i j k l (suc (suc zero)) lt = c
-by-month P a b c d e f g h i j k l (suc (suc (suc zero))) lt = d
-by-month P a b c d e f g h i j k l (suc (suc (suc (suc zero)))) lt = e
-by-month P a b c d e f g h i j k l (suc (suc (suc (suc (suc zero))))) lt = f
-by-month P a b c d e f g h i j k l (suc (suc (suc (suc (suc (suc zero)))))) lt = g
-by-month P a b c d e f g h i j k l (suc (suc (suc (suc (suc (suc (suc zero))))))) lt = h
-by-month P a b c d e f g h i j k l (suc (suc (suc (suc (suc (suc (suc (suc zero)))))))) lt = i
-by-month P a b c d e f g h i j k l (suc (suc (suc (suc (suc (suc (suc (suc (suc zero))))))))) lt = j
-by-month P a b c d e f g h i j k l (suc (suc (suc (suc (suc (suc (suc (suc (suc (suc zero)))))))))) lt = k
-by-month P a b c d e f g h i j k l (suc (suc (suc (suc (suc (suc (suc (suc (suc (suc (suc zero))))))))))) lt = l
-by-month P a b c d e f g h i j k l (suc (suc (suc (suc (suc (suc (suc (suc (suc (suc (suc (suc m)))))))))))) lt = absurd (omega arith)
-
 -- the days before each month of a common year
 abbrev pub before : List ℕ
 before = 0 ∷ 31 ∷ 59 ∷ 90 ∷ 120 ∷ 151 ∷ 181 ∷ 212 ∷ 243 ∷ 273 ∷ 304 ∷ 334 ∷ []
@@ -46,10 +29,8 @@ abbrev next : ℕ → ℕ → ℕ
 next y k = cond (eqb k 11) (start (y + 1) 0) (start y (k + 1))
 
 steps : (y k : ℕ) → k < 12 → next y k ≡ start y k + days_in (leap_year (2000 + y)) k
-steps y = by-month (λ k. next y k ≡ start y k + days_in (leap_year (2000 + y)) k)
-    (grind (arith, nat_tests)) (grind (arith, nat_tests)) (grind (arith, nat_tests)) (grind (arith, nat_tests))
-    (grind (arith, nat_tests)) (grind (arith, nat_tests)) (grind (arith, nat_tests)) (grind (arith, nat_tests))
-    (grind (arith, nat_tests)) (grind (arith, nat_tests)) (grind (arith, nat_tests)) (grind (arith, nat_tests))
+steps y (suc (suc (suc (suc (suc (suc (suc (suc (suc (suc (suc (suc m)))))))))))) lt = absurd (omega arith)
+steps y k lt = grind (arith, nat_tests)
 
 -- the closed form of the first day
 pub first-day-is : (m : ℕ) → first_day m ≡ start (m / 12) (m % 12)
@@ -82,16 +63,15 @@ first-day-grows m k le = let e : m + (k - m) ≡ k = omega arith in rw e at (by 
 abbrev Close : ℕ → ℕ → ℕ → Type 0
 Close n y k = (48 * start y k ≤ 1461 * n + 63) × (1461 * n ≤ 48 * start y k + 78)
 
+close : (y k : ℕ) → k < 12 → Close (12 * y + k) y k
+close y (suc (suc (suc (suc (suc (suc (suc (suc (suc (suc (suc (suc m)))))))))))) lt = absurd (omega arith)
+close y k lt = grind (arith, nat_tests)
+
 -- 1461 days to 48 months: how late and how early a month may begin
 near : (m : ℕ) → (48 * first_day m ≤ 1461 * m + 63) × (1461 * m ≤ 48 * first_day m + 78)
 near m =
     let e : 12 * (m / 12) + m % 12 ≡ m = omega arith in
-    rw first-day-is (subst (λ (n : ℕ). Close n (m / 12) (m % 12)) e
-    (by-month (λ k. (y : ℕ) → Close (12 * y + k) y k)
-    (λ y. grind (arith, nat_tests)) (λ y. grind (arith, nat_tests)) (λ y. grind (arith, nat_tests)) (λ y. grind (arith, nat_tests))
-    (λ y. grind (arith, nat_tests)) (λ y. grind (arith, nat_tests)) (λ y. grind (arith, nat_tests)) (λ y. grind (arith, nat_tests))
-    (λ y. grind (arith, nat_tests)) (λ y. grind (arith, nat_tests)) (λ y. grind (arith, nat_tests)) (λ y. grind (arith, nat_tests))
-    (m % 12) (omega arith) (m / 12)))
+    rw first-day-is (subst (λ (n : ℕ). Close n (m / 12) (m % 12)) e (close (m / 12) (m % 12) (omega arith)))
 
 -- the day d lies in the month g or in the one after it
 pub guess-fits : (d g : ℕ) → g ≡ (48 * d - 63) / 1461 → (first_day g ≤ d) × (d < first_day (g + 2))
@@ -166,12 +146,3 @@ month-is d m from to h =
 pub month-found : (d m : ℕ) → d ≤ 36524 → Holds m d
     → (month_of d ≡ m) × (m ≤ 1199) × (d < first_day m + month_length m)
 month-found d m h o = (month-by d m h o, omega (arith, month-by d m h o, month-holds d h), omega (arith, first-day-suc m))
-
--- a later day has no earlier month
-pub month-grows : (d e : ℕ) → d ≤ e → month_of d ≤ month_of e
-unfolding month_of begun
-month-grows d e h = by 1199
-  where
-    by : (k : ℕ) → begun k d ≤ begun k e
-    by zero = omega arith
-    by (suc k) = let i = by k in grind (arith, nat_tests)

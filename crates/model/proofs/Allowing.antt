@@ -1,23 +1,22 @@
 -- What the rules have seen where they accept an event.
-use Rattle.std.proofs.Common.{◌≡◌, ℕ, ◌<◌, ◌≤◌, Bool, true, false, cond, not, ◌&&◌, eqb, ltb, leb, List, [], ◌∷◌, length, pos, ◌+ℤ◌, ◌-ℤ◌, nat_abs, is_some as option_is_some, Some, None, Option, unwrap_or, sym, refl, ap, arith}
-use Rattle.std.proofs.lemmas.Bool.{true≢false, not-false, ltb-true, ltb-false, leb-false, eqb-false, and_parts, or_parts}
+use Rattle.std.proofs.Common.{◌≡◌, ℕ, ◌<◌, ◌≤◌, Bool, true, false, cond, not, leb, List, [], ◌∷◌, length, pos, ◌+ℤ◌, ◌-ℤ◌, nat_abs, is_some as option_is_some, Some, None, Option, unwrap_or, refl, ap, arith}
+use Rattle.std.proofs.lemmas.Bool.{true≢false, leb-false, eqb-false, or_parts}
+use Rattle.std.proofs.lemmas.Bool.Decides.{nat_tests}
 use Rattle.calendar.specs.Spans.{expiry_of}
 use Rattle.correction.specs.Gaps.{first_unrated}
-use Rattle.interest.specs.Tick.{on_tick}
-use Rattle.pricing.specs.Pricing.{distance}
 use Rattle.refusal.specs.Refusals.{Row, first_row}
 use Rattle.settlement.specs.declared.trades.Trade.{Trade}
 use Rattle.model.specs.declared.accounts.Account.{Account}
 use Rattle.model.specs.World.{World}
 use Rattle.model.specs.History.{History, Amounts, Entered, Listed, Published, Arbitrated, Opened, Traded, Marked, Paid, written, newest}
-use Rattle.model.specs.Observed.{accounts_of, months_of, is_account, is_listed, month_at, expiry_at, rate_on, latest_opened, session_day, in_session, open_session, trades_of}
+use Rattle.model.specs.Observed.{accounts_of, months_of, expiry_at, rate_on, latest_opened, session_day, in_session, open_session, trades_of}
 use Rattle.model.specs.Sessions.{sessions_of, unpaid_day, gap_to}
 use Rattle.model.specs.Positions.{position_of}
-use Rattle.model.specs.Rows.{Paper, is_of, lacks_expiry, enter_rows, list_rows, publish_rows, arbitrate_rows, open_rows, trade_rows, mark_rows, close_rows, pay_rows, is_over}
+use Rattle.model.specs.Rows.{Paper, is_of, lacks_expiry, enter_rows, list_rows, publish_rows, arbitrate_rows, open_rows, trade_rows, mark_rows, close_rows, pay_rows}
 use Rattle.model.specs.Lawful.{Allowed, Accepts, Closes}
 
 first-none : {X : Type 0} (b : Bool) (x : X) (o : Option X) → cond b (Some x) o ≡ None → (b ≡ false) × (o ≡ None)
-first-none true x o h = absurd (let z : ◌≡◌ {A = ℕ} 0 1 = cc in omega arith)
+first-none true x o h = absurd cc
 first-none false x o h = (refl, h)
 
 -- each cause fails
@@ -34,23 +33,18 @@ pub is_none : {X : Type 0} (o : Option X) → option_is_some o ≡ false → o �
 is_none None h = refl
 is_none (Some x) h = absurd (true≢false h)
 
-pub is_some : {X : Type 0} (o : Option X) → option_is_some o ≡ true → (x : X) × (o ≡ Some x)
-is_some None h = absurd (true≢false (sym h))
-is_some (Some x) h = (x, refl)
-
 -- the open session is the latest opened
 pub record OpenOn (h : History) (d : ℕ) : Type 0 where
   pub is_open : open_session h ≡ Some d
   pub latest : latest_opened h ≡ Some d
   pub day : session_day h ≡ d
-  pub unclosed : newest written (in_session h) ≡ None
 
 pub open-on : (h : History) (d : ℕ) → open_session h ≡ Some d → OpenOn h d
 open-on h d e = by (newest written (in_session h)) refl e
   where
     by : (o : Option Amounts) → newest written (in_session h) ≡ o → cond (option_is_some o) None (latest_opened h) ≡ Some d → OpenOn h d
-    by None f l = record { is_open = e; latest = l; day = ap (λ o. unwrap_or o 0) l; unclosed = f }
-    by (Some c) f l = absurd (let z : ◌≡◌ {A = ℕ} 0 1 = cc in omega arith)
+    by None f l = record { is_open = e; latest = l; day = ap (λ o. unwrap_or o 0) l }
+    by (Some c) f l = absurd cc
 
 -- a paper that is current: there is such a day
 paper-some : (w : World) (p : Paper) (o : Option ℕ) → not (is_of w p o) ≡ false → (d : ℕ) × (o ≡ Some d)
@@ -58,7 +52,6 @@ paper-some w p None h = absurd (true≢false h)
 paper-some w p (Some d) h = (d, refl)
 
 pub record Listing (w : World) (h : History) (n expiry : ℕ) : Type 0 where
-  pub room : length (months_of h) < 16
   pub is : expiry_of w.kinds n ≡ Some expiry
   pub after-start : w.start < expiry
   pub after-latest : session_day h < expiry
@@ -66,13 +59,13 @@ pub record Listing (w : World) (h : History) (n expiry : ℕ) : Type 0 where
 pub listing : (w : World) (h : History) (n : ℕ) → Accepts w h (Listed n) → (expiry : ℕ) × Listing w h n expiry
 listing w h n l =
     let r = none-hold (list_rows w h n) l in
-    by (expiry_of w.kinds n) refl (leb-false 16 (length (months_of h)) r.0) r.1.1.0
+    by (expiry_of w.kinds n) refl r.1.1.0
   where
-    by : (o : Option ℕ) → expiry_of w.kinds n ≡ o → length (months_of h) < 16 → lacks_expiry w h o ≡ false → (expiry : ℕ) × Listing w h n expiry
-    by None e room p = absurd (true≢false p)
-    by (Some x) e room p =
+    by : (o : Option ℕ) → expiry_of w.kinds n ≡ o → lacks_expiry w h o ≡ false → (expiry : ℕ) × Listing w h n expiry
+    by None e p = absurd (true≢false p)
+    by (Some x) e p =
         let q = or_parts (leb x w.start) (leb x (session_day h)) p in
-        (x, record { room = room; is = e; after-start = leb-false x w.start q.0; after-latest = leb-false x (session_day h) q.1 })
+        (x, record { is = e; after-start = leb-false x w.start q.0; after-latest = leb-false x (session_day h) q.1 })
 
 pub entering : (w : World) (h : History) (x : Account) → Accepts w h (Entered x) → length (accounts_of h) < 32
 entering w h x l = leb-false 32 (length (accounts_of h)) (none-hold (enter_rows h x) l).0
@@ -94,9 +87,7 @@ pub record Trading (w : World) (h : History) (t : Trade) : Type 0 where
   pub month : t.month < length (months_of h)
   pub before-expiry : day < expiry_at w h t.month
   pub apart : t.buyer ≡ t.seller → ⊥
-  pub some : 1 ≤ t.quantity
   pub small : t.quantity ≤ 20000
-  pub tick : on_tick t.rate (distance (session_day h) (month_at h t.month)) ≡ true
   pub buyer-limit : nat_abs (position_of w h t.buyer t.month -ℤ pos t.quantity) ≤ 500000
   pub seller-limit : nat_abs (position_of w h t.seller t.month +ℤ pos t.quantity) ≤ 500000
   pub few : length (trades_of h) < 256
@@ -106,37 +97,24 @@ trading w h t l =
     let r = none-hold (trade_rows w h l.0.0 t) l.0.1 in
     let s = paper-some w l.0.0 (open_session h) r.0 in
     let o = open-on h s.0 s.1 in
-    let i = and_parts (is_account h t.buyer) (is_account h t.seller && is_listed h t.month) (not-false (is_account h t.buyer && (is_account h t.seller && is_listed h t.month)) r.1.0) in
-    let j = and_parts (is_account h t.seller) (is_listed h t.month) i.1 in
-    let q = or_parts (eqb t.quantity 0) (ltb 20000 t.quantity) r.1.1.1.1.0 in
-    let u = or_parts (ltb 99999 t.rate) (not (on_tick t.rate (distance (session_day h) (month_at h t.month)))) r.1.1.1.1.1.0 in
-    let p = or_parts (is_over (position_of w h t.buyer t.month -ℤ pos t.quantity)) (is_over (position_of w h t.seller t.month +ℤ pos t.quantity)) r.1.1.1.1.1.1.1.0 in
-    let z = eqb-false t.quantity 0 q.0 in
-    let e = leb-false (expiry_at w h t.month) (session_day h) r.1.1.0 in
     record {
       day = s.0;
       session = o;
-      buyer = ltb-true t.buyer (length (accounts_of h)) i.0;
-      seller = ltb-true t.seller (length (accounts_of h)) j.0;
-      month = ltb-true t.month (length (months_of h)) j.1;
-      before-expiry = rw o.day at e;
+      buyer = grind (arith, nat_tests, r.1.0);
+      seller = grind (arith, nat_tests, r.1.0);
+      month = grind (arith, nat_tests, r.1.0);
+      before-expiry = omega (arith, o.day, leb-false (expiry_at w h t.month) (session_day h) r.1.1.0);
       apart = eqb-false t.buyer t.seller r.1.1.1.0;
-      some = positive t.quantity z;
-      small = ltb-false 20000 t.quantity q.1;
-      tick = not-false (on_tick t.rate (distance (session_day h) (month_at h t.month))) u.1;
-      buyer-limit = ltb-false 500000 (nat_abs (position_of w h t.buyer t.month -ℤ pos t.quantity)) p.0;
-      seller-limit = ltb-false 500000 (nat_abs (position_of w h t.seller t.month +ℤ pos t.quantity)) p.1;
+      small = grind (arith, nat_tests, r.1.1.1.1.0);
+      buyer-limit = grind (arith, nat_tests, r.1.1.1.1.1.1.1.0);
+      seller-limit = grind (arith, nat_tests, r.1.1.1.1.1.1.1.0);
       few = leb-false 256 (length (trades_of h)) r.1.1.1.1.1.1.1.1.0;
     }
-  where
-    positive : (n : ℕ) → (n ≡ 0 → ⊥) → 1 ≤ n
-    positive n h = omega arith
 
 -- a price is at most 10,000,000
 pub marking : (w : World) (h : History) (m p : ℕ) → Accepts w h (Marked m p) → p ≤ 10000000
 marking w h m p l =
-    let r = none-hold (mark_rows w h l.0 m p) l.1 in
-    ltb-false 10000000 p (or_parts (eqb p 0) (ltb 10000000 p) r.1.1.1.0).1
+    let r = none-hold (mark_rows w h l.0 m p) l.1 in grind (arith, nat_tests, r.1.1.1.0)
 
 pub record Closing (w : World) (h : History) : Type 0 where
   pub day : ℕ
@@ -155,14 +133,5 @@ closing w h c l =
       rated = is_none (first_unrated (rate_on w h) (gap_to w (session_day h) (sessions_of w h))) r.1.1.1.0;
     }
 
-pub record Paying (w : World) (h : History) : Type 0 where
-  pub day : ℕ
-  pub unpaid : unpaid_day w h ≡ Some day
-  pub later : (d : ℕ) × OpenOn h d
-
-pub paying : (w : World) (h : History) → Accepts w h Paid → Paying w h
-paying w h l =
-    let r = none-hold (pay_rows w h l.0) l.1 in
-    let s = paper-some w l.0 (unpaid_day w h) r.0 in
-    let o = is_some (open_session h) (not-false (option_is_some (open_session h)) r.1.0) in
-    record { day = s.0; unpaid = s.1; later = (o.0, open-on h o.0 o.1) }
+pub paying : (w : World) (h : History) → Accepts w h Paid → (d : ℕ) × (unpaid_day w h ≡ Some d)
+paying w h l = paper-some w l.0 (unpaid_day w h) (none-hold (pay_rows w h l.0) l.1).0

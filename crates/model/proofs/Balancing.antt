@@ -1,11 +1,10 @@
 -- Positions and adjustments add to zero over the accounts.
-use Rattle.std.proofs.Common.{◌≡◌, ℕ, zero, suc, ◌+◌, ◌<◌, ◌≤◌, Bool, true, false, cond, eqb, ◌⊎◌, List, [], ◌∷◌, ℤ, pos, ◌+ℤ◌, ◌-ℤ◌, ◌*ℤ◌, None, count_by, sym, refl, ap, ◌∙◌, inl, inr, arith}
+use Rattle.std.proofs.Common.{◌≡◌, ℕ, ◌<◌, Bool, true, false, cond, eqb, List, [], ◌∷◌, ℤ, pos, ◌+ℤ◌, ◌-ℤ◌, None, count_by, sym, refl, ap, ◌∙◌, arith}
 use mathlib.Core.Path.{fun_ext}
 use lib.IntN.{zero-*ℤ}
-use Rattle.std.specs.List.{range_with_len, AllByRecursion}
+use Rattle.std.specs.List.{AllByRecursion}
 use Rattle.std.proofs.ByRecursion.{All-append, All-weaker}
-use Rattle.std.proofs.lemmas.List.Sums.{sum_by-cons}
-use Rattle.std.proofs.lemmas.Bool.{true≢false, eq-eqb, ne_eqb, cases_eq}
+use Rattle.std.proofs.lemmas.Bool.{true≢false, eqb-true, agree_below_at}
 use Rattle.settlement.specs.declared.trades.Trade.{Trade}
 use Rattle.settlement.specs.Accounts.{Once, Among}
 use Rattle.settlement.specs.Amounts.{gain_of, on_trades}
@@ -15,7 +14,7 @@ use Rattle.settlement.proofs.Laws.{contracts-opposite, trades-opposite}
 use Rattle.settlement.proofs.Totals.{total-append, total-sum, total-times, total-zero}
 use Rattle.model.specs.Accounts.{account_indices}
 use Rattle.model.specs.World.{World}
-use Rattle.model.specs.History.{History, Event, Amounts, Entered, Listed, Published, Arbitrated, Opened, Traded, Marked, Closed, Paid, traded, written, is_payment, list_of, gather, since, before}
+use Rattle.model.specs.History.{History, Event, Amounts, Closed, traded, written, is_payment, list_of, gather, since, before}
 use Rattle.model.specs.Observed.{rate_on, session_day, trades_of, settlement_price}
 use Rattle.model.specs.Sessions.{Session, sessions_of}
 use Rattle.model.specs.Positions.{has_ended, contracts_in, carried_of, corrected_to, adjustment_at, written_for, due_of, paid_of}
@@ -25,26 +24,10 @@ use Rattle.model.specs.Balance.{AlwaysBalanced}
 use Rattle.model.proofs.Cells.{cells}
 use Rattle.model.proofs.Dealt.{FitsIn, accounts-few, trades-fit, session-fits, closed-fit, gather-split}
 
--- how often a number stands in a count
-counted-not : (a s n : ℕ) → a < s → count_by (eqb a) (range_with_len s n) ≡ 0
-counted-not a s zero h = refl
-counted-not a s (suc n) h =
-    sum_by-cons (λ x. cond (eqb a x) 1 0) s (range_with_len (s + 1) n)
-    ∙ rw (ne_eqb a s (omega arith)) (omega (arith, counted-not a (s + 1) n (omega arith)))
-
-counted-once : (a s n : ℕ) → s ≤ a → a < s + n → count_by (eqb a) (range_with_len s n) ≡ 1
-counted-once a s zero low high = absurd (omega arith)
-counted-once a s (suc n) low high =
-    sum_by-cons (λ x. cond (eqb a x) 1 0) s (range_with_len (s + 1) n) ∙ by (cases_eq a s) (λ k. counted-once a (s + 1) n k (omega arith))
-  where
-    by : (a ≡ s) ⊎ (a ≡ s → ⊥) → (s + 1 ≤ a → count_by (eqb a) (range_with_len (s + 1) n) ≡ 1)
-        → cond (eqb a s) 1 0 + count_by (eqb a) (range_with_len (s + 1) n) ≡ 1
-    by (inl e) ih = rw (eq-eqb a s e) (omega (arith, counted-not a (s + 1) n (omega arith)))
-    by (inr d) ih = rw (ne_eqb a s d) (omega (arith, ih (omega arith)))
-
 -- an account stands once among the indices
 pub index-once : (a : ℕ) → a < 32 → Once account_indices a
-index-once a h = counted-once a 0 32 (omega arith) (omega arith)
+index-once a h =
+    eqb-true (count_by (eqb a) account_indices) 1 (agree_below_at (λ n. eqb (count_by (eqb n) account_indices) 1) (λ _. true) 32 a refl h)
 
 -- both sides of each trade stand once among the indices
 pub among : (w : World) (h : History) → Lawful w h → (ts : List Trade) → AllByRecursion (FitsIn h) ts → Among account_indices ts
@@ -52,9 +35,6 @@ among w h l ts f =
     let few = accounts-few w h l in
     All-weaker (FitsIn h) (λ t. Once account_indices t.buyer × Once account_indices t.seller)
     (λ t g. let b = g.buyer in let s = g.seller in (index-once t.buyer (omega arith), index-once t.seller (omega arith))) ts f
-
-total-same : {X : Type 0} (f g : X → ℤ) (xs : List X) → ((x : X) → f x ≡ g x) → total f xs ≡ total g xs
-total-same f g xs e = ap (λ k. total k xs) (fun_ext e)
 
 -- the contracts of all accounts come to 0, over trades and over sessions
 pub changes-opposite : (m : ℕ) (accounts : List ℕ) (ts : List Trade) → Among accounts ts → total (λ a. position_change a m ts) accounts ≡ pos 0
@@ -91,7 +71,7 @@ gains-opposite : (f : ℕ → ℤ) (price before : ℕ) (accounts : List ℕ) �
     → total (λ a. gain_of (f a) price before) accounts ≡ pos 0
 unfolding gain_of
 gains-opposite f price before accounts z =
-    total-times f (pos price -ℤ pos before) accounts ∙ ap (λ x. x *ℤ (pos price -ℤ pos before)) z ∙ zero-*ℤ (pos price -ℤ pos before)
+    rw (total-times f (pos price -ℤ pos before) accounts, z) (zero-*ℤ (pos price -ℤ pos before))
 
 pub adjustments-balance : (w : World) (h : History) (m : ℕ) → Lawful w h → total (λ a. adjustment_at w h a m) account_indices ≡ pos 0
 adjustments-balance w h m l =
@@ -108,16 +88,9 @@ abbrev Even : Amounts → Type 0
 Even c = (m : ℕ) → total (λ a. c.adjustments a m) account_indices ≡ pos 0
 
 new-even : (w : World) (h : History) (e : Event) → Lawful w (e ∷ h) → AllByRecursion Even (list_of (written e))
-new-even w h (Entered x) l = tt
-new-even w h (Listed n) l = tt
-new-even w h (Published d r) l = tt
-new-even w h (Arbitrated d r) l = tt
-new-even w h (Opened d) l = tt
-new-even w h (Traded t) l = tt
-new-even w h (Marked m p) l = tt
 new-even w h (Closed c) l =
-    (λ m. total-same (λ a. c.adjustments a m) (λ a. adjustment_at w h a m) account_indices (λ a. cells w h c l a m) ∙ adjustments-balance w h m l.1, tt)
-new-even w h Paid l = tt
+    (λ m. ap (λ f. total f account_indices) (fun_ext (λ a. cells w h c l a m)) ∙ adjustments-balance w h m l.1, tt)
+new-even w h e l = tt
 
 all-even : (w : World) (h : History) → Lawful w h → AllByRecursion Even (gather written h)
 all-even w [] l = tt
@@ -125,15 +98,8 @@ all-even w (e ∷ h) l = All-append Even (gather written h) (list_of (written e)
 
 -- a payment writes nothing
 payment-silent : (e : Event) → is_payment e ≡ true → written e ≡ None
-payment-silent (Entered x) k = refl
-payment-silent (Listed n) k = refl
-payment-silent (Published d r) k = refl
-payment-silent (Arbitrated d r) k = refl
-payment-silent (Opened d) k = refl
-payment-silent (Traded t) k = refl
-payment-silent (Marked m p) k = refl
 payment-silent (Closed c) k = absurd (true≢false (sym k))
-payment-silent Paid k = refl
+payment-silent e k = refl
 
 -- paid and due are all that was written
 pub all-written : (h : History) (a : ℕ) → paid_of h a +ℤ due_of h a ≡ total (written_for a) (gather written h)

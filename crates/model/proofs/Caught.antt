@@ -7,11 +7,10 @@ use Rattle.dates.specs.Months.{month_of}
 use Rattle.dates.proofs.MonthLaws.{month-is}
 use Rattle.settlement.specs.Sums.{total}
 use Rattle.model.specs.Accounts.{account_indices}
-use Rattle.model.specs.History.{Entered, Listed, Published, Opened, Traded, Marked, Closed, Paid}
 use Rattle.model.specs.Balance.{Balanced}
 use Rattle.model.specs.Positions.{written_for}
-use Rattle.model.specs.Lawful.{Accepts, Lawful}
-use Rattle.model.specs.Examples.{client, deal, both}
+use Rattle.model.specs.Lawful.{Lawful}
+use Rattle.model.specs.Examples.{both}
 use Rattle.model.specs.Value.{Valued}
 use Rattle.model.specs.Wrong.{wrong_world, wrong_history, right_history, wrong_amounts, book_of, TooFar, WrongCaught}
 use Rattle.model.proofs.Exampled.{figures, december, paper, closes}
@@ -21,63 +20,17 @@ january : month_of 9862 ≡ 324
 unfolding figures
 january = month-is 9862 324 (lit≤ tt) (lit< tt) (lit≤ tt)
 
-right-1 : Accepts wrong_world (drop 15 right_history) (Entered (client 10))
-right-1 = refl
-
-right-2 : Accepts wrong_world (drop 14 right_history) (Entered (client 11))
-right-2 = refl
-
-right-3 : Accepts wrong_world (drop 13 right_history) (Listed 325)
+-- up to the first close, the newest event first
+right-first : Lawful wrong_world (drop 7 right_history)
 unfolding figures
-right-3 = refl
+right-first =
+    (closes wrong_world (drop 8 right_history) 9860 refl, ((paper 9860, refl), (((paper 9860, rw december), refl), (refl, ((refl, refl), (refl, (refl, (refl, tt))))))))
 
-right-4 : Accepts wrong_world (drop 12 right_history) (Opened 9860)
-unfolding figures
-right-4 = (refl, refl)
-
-right-5 : Accepts wrong_world (drop 11 right_history) (Published 9860 10000000)
-right-5 = refl
-
-right-6 : Accepts wrong_world (drop 10 right_history) (Traded (deal 15000 100 9873250))
-unfolding figures
-right-6 = ((paper 9860, rw december), refl)
-
-right-7 : Accepts wrong_world (drop 9 right_history) (Marked 0 9873300)
-unfolding figures
-right-7 = (paper 9860, refl)
-
-right-8 : Accepts wrong_world (drop 8 right_history) (Closed (both (pos 5000)))
-unfolding figures
-right-8 = closes wrong_world (drop 8 right_history) 9860 refl
-
-right-9 : Accepts wrong_world (drop 7 right_history) (Opened 9862)
-unfolding figures
-right-9 = (refl, refl)
-
-right-10 : Accepts wrong_world (drop 6 right_history) Paid
-right-10 = (paper 9860, refl)
-
-right-11 : Accepts wrong_world (drop 5 right_history) (Published 9861 14000000)
-right-11 = refl
-
-right-12 : Accepts wrong_world (drop 4 right_history) (Published 9862 21000000)
-right-12 = refl
-
-right-13 : Accepts wrong_world (drop 3 right_history) (Traded (deal 14500 40 9887797))
-unfolding figures
-right-13 = ((paper 9862, rw january), refl)
-
-right-14 : Accepts wrong_world (drop 2 right_history) (Marked 0 9885000)
-unfolding figures
-right-14 = (paper 9862, refl)
-
-right-15 : Accepts wrong_world (drop 1 right_history) (Closed (both (pos 170920)))
-unfolding figures
-right-15 = closes wrong_world (drop 1 right_history) 9862 refl
-
+-- all of it
 right-lawful : Lawful wrong_world right_history
+unfolding figures
 right-lawful =
-    (right-15, (right-14, (right-13, (right-12, (right-11, (right-10, (right-9, (right-8, (right-7, (right-6, (right-5, (right-4, (right-3, (right-2, (right-1, tt)))))))))))))))
+    (closes wrong_world (drop 1 right_history) 9862 refl, ((paper 9862, refl), (((paper 9862, rw january), refl), (refl, (refl, ((paper 9860, refl), ((refl, refl), right-first)))))))
 
 -- a close that gives account 0 the opposite of account 1 adds to zero
 cancels : (x : ℤ) (m : ℕ) → total (λ a. (both x).adjustments a m) account_indices ≡ pos 0

@@ -9,12 +9,12 @@ use Rattle.settlement.specs.declared.trades.Trade.{Trade}
 use Rattle.settlement.specs.Sums.{total}
 use Rattle.settlement.proofs.Totals.{total-append}
 use Rattle.model.specs.World.{World}
-use Rattle.model.specs.History.{History, Event, Amounts, Entered, Listed, Published, Arbitrated, Opened, Traded, Marked, Closed, Paid, entered, listed, traded, written, is_opening, list_of, gather, since, before}
+use Rattle.model.specs.History.{History, Event, Amounts, Entered, Opened, Traded, Closed, entered, listed, traded, written, is_opening, list_of, gather, since, before}
 use Rattle.model.specs.Observed.{accounts_of, months_of, open_session, trades_of}
 use Rattle.model.specs.Sessions.{Session, added, sessions_of}
 use Rattle.model.specs.Lawful.{Accepts, Lawful}
 use Rattle.model.specs.Laws.{TradesFew}
-use Rattle.model.proofs.Allowing.{entering, listing, opening, trading, closing}
+use Rattle.model.proofs.Allowing.{entering, opening, trading, closing}
 
 -- what is told is told before an event of a kind or since it, where such an event tells nothing
 pub gather-split : {X : Type 0} (tells : Event → Option X) (kind : Event → Bool) → ((e : Event) → kind e ≡ true → tells e ≡ None)
@@ -29,15 +29,8 @@ gather-split tells kind silent (e ∷ h) = by (kind e) refl (gather-split tells 
 
 -- an opening is no trade
 opening-silent : (e : Event) → is_opening e ≡ true → traded e ≡ None
-opening-silent (Entered x) k = refl
-opening-silent (Listed n) k = refl
-opening-silent (Published d r) k = refl
-opening-silent (Arbitrated d r) k = refl
-opening-silent (Opened d) k = refl
 opening-silent (Traded t) k = absurd (true≢false (sym k))
-opening-silent (Marked m p) k = refl
-opening-silent (Closed c) k = refl
-opening-silent Paid k = refl
+opening-silent e k = refl
 
 all_right : {X : Type 0} (P : X → Type 0) (xs ys : List X) → AllByRecursion P (xs ++ ys) → AllByRecursion P ys
 all_right P [] ys h = h
@@ -58,67 +51,29 @@ pub record Fits (n k : ℕ) (t : Trade) : Type 0 where
 abbrev pub FitsIn : History → Trade → Type 0
 FitsIn h t = Fits (length (accounts_of h)) (length (months_of h)) t
 
-longer : {X : Type 0} (xs ys : List X) → length xs ≤ length (xs ++ ys)
-longer xs ys = simp length-append (omega arith)
-
 -- accounts and months stay
 pub fits-stays : (h : History) (e : Event) (t : Trade) → FitsIn h t → FitsIn (e ∷ h) t
 fits-stays h e t f =
-    let a = longer (accounts_of h) (list_of (entered e)) in
-    let m = longer (months_of h) (list_of (listed e)) in
-    let b = f.buyer in
-    let s = f.seller in
-    let n = f.month in
-    record { buyer = omega arith; seller = omega arith; month = omega arith; small = f.small }
+    let a = length-append (accounts_of h) (list_of (entered e)) in
+    let m = length-append (months_of h) (list_of (listed e)) in
+    record { buyer = omega (arith, f.buyer); seller = omega (arith, f.seller); month = omega (arith, f.month); small = f.small }
 
--- the accounts and the months are few
+-- the accounts are few
 pub accounts-few : (w : World) (h : History) → Lawful w h → length (accounts_of h) ≤ 32
 accounts-few w [] l = omega arith
 accounts-few w (Entered x ∷ h) l = let r = entering w h x l.0 in rw (length_push (accounts_of h) x) (omega arith)
-accounts-few w (Listed n ∷ h) l = rw (append-nil (accounts_of h)) (accounts-few w h l.1)
-accounts-few w (Published d r ∷ h) l = rw (append-nil (accounts_of h)) (accounts-few w h l.1)
-accounts-few w (Arbitrated d r ∷ h) l = rw (append-nil (accounts_of h)) (accounts-few w h l.1)
-accounts-few w (Opened d ∷ h) l = rw (append-nil (accounts_of h)) (accounts-few w h l.1)
-accounts-few w (Traded t ∷ h) l = rw (append-nil (accounts_of h)) (accounts-few w h l.1)
-accounts-few w (Marked m p ∷ h) l = rw (append-nil (accounts_of h)) (accounts-few w h l.1)
-accounts-few w (Closed c ∷ h) l = rw (append-nil (accounts_of h)) (accounts-few w h l.1)
-accounts-few w (Paid ∷ h) l = rw (append-nil (accounts_of h)) (accounts-few w h l.1)
-
-pub months-few : (w : World) (h : History) → Lawful w h → length (months_of h) ≤ 16
-months-few w [] l = omega arith
-months-few w (Entered x ∷ h) l = rw (append-nil (months_of h)) (months-few w h l.1)
-months-few w (Listed n ∷ h) l = let r = (listing w h n l.0).1.room in rw (length_push (months_of h) n) (omega arith)
-months-few w (Published d r ∷ h) l = rw (append-nil (months_of h)) (months-few w h l.1)
-months-few w (Arbitrated d r ∷ h) l = rw (append-nil (months_of h)) (months-few w h l.1)
-months-few w (Opened d ∷ h) l = rw (append-nil (months_of h)) (months-few w h l.1)
-months-few w (Traded t ∷ h) l = rw (append-nil (months_of h)) (months-few w h l.1)
-months-few w (Marked m p ∷ h) l = rw (append-nil (months_of h)) (months-few w h l.1)
-months-few w (Closed c ∷ h) l = rw (append-nil (months_of h)) (months-few w h l.1)
-months-few w (Paid ∷ h) l = rw (append-nil (months_of h)) (months-few w h l.1)
+accounts-few w (e ∷ h) l = rw (append-nil (accounts_of h)) (accounts-few w h l.1)
 
 pub trades-few : TradesFew
 trades-few w [] l = omega arith
-trades-few w (Entered x ∷ h) l = rw (append-nil (trades_of h)) (trades-few w h l.1)
-trades-few w (Listed n ∷ h) l = rw (append-nil (trades_of h)) (trades-few w h l.1)
-trades-few w (Published d r ∷ h) l = rw (append-nil (trades_of h)) (trades-few w h l.1)
-trades-few w (Arbitrated d r ∷ h) l = rw (append-nil (trades_of h)) (trades-few w h l.1)
 trades-few w (Opened d ∷ h) l = omega arith
 trades-few w (Traded t ∷ h) l = let r = (trading w h t l.0).few in rw (length_push (trades_of h) t) (omega arith)
-trades-few w (Marked m p ∷ h) l = rw (append-nil (trades_of h)) (trades-few w h l.1)
-trades-few w (Closed c ∷ h) l = rw (append-nil (trades_of h)) (trades-few w h l.1)
-trades-few w (Paid ∷ h) l = rw (append-nil (trades_of h)) (trades-few w h l.1)
+trades-few w (e ∷ h) l = rw (append-nil (trades_of h)) (trades-few w h l.1)
 
 -- a trade that is accepted fits
 new-fits : (w : World) (h : History) (e : Event) → Accepts w h e → AllByRecursion (FitsIn h) (list_of (traded e))
-new-fits w h (Entered x) l = tt
-new-fits w h (Listed n) l = tt
-new-fits w h (Published d r) l = tt
-new-fits w h (Arbitrated d r) l = tt
-new-fits w h (Opened d) l = tt
 new-fits w h (Traded t) l = let r = trading w h t l in (record { buyer = r.buyer; seller = r.seller; month = r.month; small = r.small }, tt)
-new-fits w h (Marked m p) l = tt
-new-fits w h (Closed c) l = tt
-new-fits w h Paid l = tt
+new-fits w h e l = tt
 
 -- all trades so far fit
 pub trades-fit : (w : World) (h : History) → Lawful w h → AllByRecursion (FitsIn h) (gather traded h)
@@ -160,10 +115,6 @@ adds g s o x e = omega (arith, ints)
 -- all trades are those of the closed sessions and those of the session that is open
 pub dealt-split : (w : World) (f : Trade → ℤ) (h : History) → Lawful w h → total f (gather traded h) ≡ in_closed f (sessions_of w h) +ℤ in_open f h
 dealt-split w f [] l = refl
-dealt-split w f (Entered x ∷ h) l = rw (append-nil (gather traded h), append-nil (trades_of h)) (dealt-split w f h l.1)
-dealt-split w f (Listed n ∷ h) l = rw (append-nil (gather traded h), append-nil (trades_of h)) (dealt-split w f h l.1)
-dealt-split w f (Published d r ∷ h) l = rw (append-nil (gather traded h), append-nil (trades_of h)) (dealt-split w f h l.1)
-dealt-split w f (Arbitrated d r ∷ h) l = rw (append-nil (gather traded h), append-nil (trades_of h)) (dealt-split w f h l.1)
 dealt-split w f (Opened d ∷ h) l =
     let ih = dealt-split w f h l.1 in
     rw (append-nil (gather traded h)) (rw (opening w h d l.0) at ih)
@@ -172,9 +123,8 @@ dealt-split w f (Traded t ∷ h) l =
     let ih = rw o at (dealt-split w f h l.1) in
     rw (o, total-append f (gather traded h) (t ∷ []), total-append f (trades_of h) (t ∷ []))
     (adds (total f (gather traded h)) (in_closed f (sessions_of w h)) (total f (trades_of h)) (total f (t ∷ [])) ih)
-dealt-split w f (Marked m p ∷ h) l = rw (append-nil (gather traded h), append-nil (trades_of h)) (dealt-split w f h l.1)
 dealt-split w f (Closed c ∷ h) l =
     let o = (closing w h c l.0).session.is_open in
     let ih = rw o at (dealt-split w f h l.1) in
     rw (append-nil (gather traded h)) (omega (arith, ints, ih))
-dealt-split w f (Paid ∷ h) l = rw (append-nil (gather traded h), append-nil (trades_of h)) (dealt-split w f h l.1)
+dealt-split w f (e ∷ h) l = rw (append-nil (gather traded h), append-nil (trades_of h)) (dealt-split w f h l.1)

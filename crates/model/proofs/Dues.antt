@@ -1,13 +1,13 @@
 -- What is due and what is paid: what moves them, and what a payment pays.
-use Rattle.std.proofs.Common.{◌≡◌, ℕ, ◌≤◌, Bool, true, false, cond, List, [], ◌∷◌, ◌++◌, length, ◌+ℤ◌, is_some, Some, None, Option, sym, refl, ap, ◌∙◌, arith}
+use Rattle.std.proofs.Common.{◌≡◌, ℕ, ◌≤◌, Bool, true, false, cond, [], ◌∷◌, ◌++◌, length, ◌+ℤ◌, is_some, Some, None, Option, sym, refl, ap, ◌∙◌, arith}
 use lib.IntN.{+ℤ_idr}
 use Rattle.std.specs.List.{AllByRecursion}
-use Rattle.std.proofs.lemmas.List.{append-nil, length_push}
+use Rattle.std.proofs.lemmas.List.{append-nil, length_push, nil_from_length}
 use Rattle.std.proofs.lemmas.Bool.{true≢false}
 use Rattle.settlement.specs.Sums.{total}
 use Rattle.settlement.proofs.Totals.{total-append}
 use Rattle.model.specs.World.{World}
-use Rattle.model.specs.History.{History, Event, Amounts, Entered, Listed, Published, Arbitrated, Opened, Traded, Marked, Closed, Paid, written, is_payment, or_else, list_of, gather, newest, since, before}
+use Rattle.model.specs.History.{History, Event, Amounts, Closed, written, is_payment, or_else, list_of, gather, newest, since}
 use Rattle.model.specs.Positions.{written_for, due_of}
 use Rattle.model.specs.Sessions.{latest_closed}
 use Rattle.model.specs.Lawful.{Lawful}
@@ -22,32 +22,19 @@ closed-moves h c a =
     ∙ ap (λ x. due_of h a +ℤ x) (+ℤ_idr (written_for a c))
 
 still-due : (e : Event) (h : History) (a : ℕ) → written e ≡ None → is_payment e ≡ false → due_of (e ∷ h) a ≡ due_of h a
-still-due e h a n p =
-    ap (λ b. total (written_for a) (gather written (cond b [] (e ∷ since is_payment h)))) p
-    ∙ ap (λ o. total (written_for a) (gather written (since is_payment h) ++ list_of o)) n
-    ∙ ap (total (written_for a)) (append-nil (gather written (since is_payment h)))
+still-due e h a n p = rw (p, n, append-nil (gather written (since is_payment h)))
 
 pub dues-move : DuesMove
 dues-move = record {
   closed = λ h c a. (closed-moves h c a, refl);
   paid = λ h a. (refl, sym (all-written h a));
-  still = λ e h a n p. (still-due e h a n p, ap (λ b. total (written_for a) (gather written (cond b h (before is_payment h)))) p);
+  still = λ e h a n p. (still-due e h a n p, rw p);
 }
 
 -- while a close is unpaid, no event is a close
 no-close : (w : World) (h : History) (e : Event) → Lawful w (e ∷ h) → is_some (newest written (since is_payment h)) ≡ true → written e ≡ None
-no-close w h (Entered x) l u = refl
-no-close w h (Listed n) l u = refl
-no-close w h (Published d r) l u = refl
-no-close w h (Arbitrated d r) l u = refl
-no-close w h (Opened d) l u = refl
-no-close w h (Traded t) l u = refl
-no-close w h (Marked m p) l u = refl
 no-close w h (Closed c) l u = absurd (some-told (since is_payment h) u (closes-paid w h c l))
   where
-    full : (xs : List Amounts) (x : Amounts) → xs ++ x ∷ [] ≡ [] → ⊥
-    full xs x e = let n = ap length e in omega (arith, length_push xs x)
-
     some-told : (k : History) → is_some (newest written k) ≡ true → gather written k ≡ [] → ⊥
     some-told [] s g = true≢false (sym s)
     some-told (e ∷ k) s g = by (written e) s g (some-told k)
@@ -55,14 +42,12 @@ no-close w h (Closed c) l u = absurd (some-told (since is_payment h) u (closes-p
         by : (o : Option Amounts) → is_some (or_else o (newest written k)) ≡ true → gather written k ++ list_of o ≡ []
             → (is_some (newest written k) ≡ true → gather written k ≡ [] → ⊥) → ⊥
         by None s g ih = ih s (sym (append-nil (gather written k)) ∙ g)
-        by (Some c) s g ih = full (gather written k) c g
-no-close w h Paid l u = refl
+        by (Some c) s g ih = omega (arith, length_push (gather written k) c, ap length g)
+no-close w h e l u = refl
 
 still-unpaid : (e : Event) (h : History) → written e ≡ None → is_payment e ≡ false → is_some (newest written (since is_payment h)) ≡ true
     → is_some (newest written (since is_payment (e ∷ h))) ≡ true
-still-unpaid e h n p u =
-    ap (λ b. is_some (newest written (cond b [] (e ∷ since is_payment h)))) p
-    ∙ ap (λ o. is_some (or_else o (newest written (since is_payment h)))) n ∙ u
+still-unpaid e h n p u = rw (p, n) u
 
 -- what stays while nothing is paid
 record Waits (k h : History) : Type 0 where
@@ -77,7 +62,7 @@ waits w (e ∷ k) h l u p =
     let n = no-close w (k ++ h) e l r.unpaid in
     record {
       unpaid = still-unpaid e (k ++ h) n p.0 r.unpaid;
-      none = ap (λ o. gather written k ++ list_of o) n ∙ append-nil (gather written k) ∙ r.none;
+      none = rw (n, append-nil (gather written k)) r.none;
       due = λ a. still-due e (k ++ h) a n p.0 ∙ r.due a;
     }
 
@@ -96,30 +81,24 @@ newest-since {X} tells kind (e ∷ h) x n = by (kind e) n (newest-since tells ki
 
     by : (b : Bool) → newest tells (cond b [] (e ∷ since kind h)) ≡ Some x
         → (newest tells (since kind h) ≡ Some x → newest tells h ≡ Some x) → or_else (tells e) (newest tells h) ≡ Some x
-    by true n ih = absurd (let z : ◌≡◌ {A = ℕ} 0 1 = cc in omega arith)
+    by true n ih = absurd cc
     by false n ih = told (tells e) n ih
 
 -- a list of one at most, of which the newest is known
 only : {X : Type 0} (tells : Event → Option X) (h : History) (x : X) → length (gather tells h) ≤ 1 → newest tells h ≡ Some x → gather tells h ≡ x ∷ []
-only tells [] x f n = absurd (let z : ◌≡◌ {A = ℕ} 0 1 = cc in omega arith)
+only tells [] x f n = absurd cc
 only {X} tells (e ∷ h) x f n = by (tells e) f n (only tells h x)
   where
-    empty : (xs : List X) → length xs ≤ 0 → xs ≡ []
-    empty [] f = refl
-    empty (y ∷ ys) f = absurd (omega arith)
-
     by : (o : Option X) → length (gather tells h ++ list_of o) ≤ 1 → or_else o (newest tells h) ≡ Some x
         → (length (gather tells h) ≤ 1 → newest tells h ≡ Some x → gather tells h ≡ x ∷ []) → gather tells h ++ list_of o ≡ x ∷ []
     by None f n ih = append-nil (gather tells h) ∙ ih (rw (append-nil (gather tells h)) at f) n
-    by (Some y) f n ih =
-        let same : y ≡ x = cc in
-        ap (λ xs. xs ++ y ∷ []) (empty (gather tells h) (omega (arith, length_push (gather tells h) y))) ∙ ap (λ z. z ∷ []) same
+    by (Some y) f n ih = rw (nil_from_length (gather tells h) (omega (arith, length_push (gather tells h) y))) cc
 
 pub pays-latest : PaysLatest
-pays-latest w h c l n a = by (newest written (since is_payment h)) refl (paying w h l.0).unpaid
+pays-latest w h c l n a = by (newest written (since is_payment h)) refl (paying w h l.0).1
   where
-    by : (o : Option Amounts) → newest written (since is_payment h) ≡ o → cond (is_some o) (latest_closed w h) None ≡ Some (paying w h l.0).day → due_of h a ≡ written_for a c
-    by None e u = absurd (let z : ◌≡◌ {A = ℕ} 0 1 = cc in omega arith)
+    by : (o : Option Amounts) → newest written (since is_payment h) ≡ o → cond (is_some o) (latest_closed w h) None ≡ Some (paying w h l.0).0 → due_of h a ≡ written_for a c
+    by None e u = absurd cc
     by (Some x) e u =
         let same : x ≡ c = let k = newest-since written is_payment h x e in cc in
         ap (total (written_for a)) (only written (since is_payment h) x (one-unpaid w h l.1) e) ∙ +ℤ_idr (written_for a x) ∙ ap (written_for a) same

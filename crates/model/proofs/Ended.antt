@@ -1,22 +1,20 @@
 -- After the last session of a month its adjustments are 0.
-use Rattle.std.proofs.Common.{◌≡◌, ℕ, ◌<◌, ◌≤◌, true, cond, ◌&&◌, eqb, ◌⊎◌, List, [], ◌∷◌, ◌++◌, length, get_or, pos, ◌+ℤ◌, ◌-ℤ◌, Some, refl, ap, ◌∙◌, ap₂, inl, inr, arith}
-use lib.IntN.{zero-*ℤ}
+use Rattle.std.proofs.Common.{◌≡◌, ℕ, ◌<◌, ◌≤◌, true, ◌⊎◌, List, [], ◌∷◌, ◌++◌, length, get_or, pos, Some, ap, ◌∙◌, inl, inr, arith}
 use Rattle.std.specs.List.{AllByRecursion}
 use Rattle.std.proofs.ByRecursion.{All-push, All-weaker}
 use Rattle.std.proofs.lemmas.List.{append-nil, length_push, get_or_push, get_or_append_left}
-use Rattle.std.proofs.lemmas.Bool.{cases_lt, lt-ltb, ne_eqb, and_from, cond-true}
+use Rattle.std.proofs.lemmas.Bool.{cases_lt, lt-ltb, ne_eqb, and_from}
 use Rattle.pricing.specs.Pricing.{expiry_day}
 use Rattle.settlement.specs.declared.trades.Trade.{Trade}
-use Rattle.settlement.specs.declared.trades.Side.TheVariants.{Bought, Sold}
-use Rattle.settlement.specs.Amounts.{gain_of, on_trades}
-use Rattle.settlement.specs.Trades.{party_of, contracts_of, position_change}
-use Rattle.model.specs.History.{History, Event, Amounts, Entered, Listed, Published, Arbitrated, Opened, Traded, Marked, Closed, Paid}
+use Rattle.settlement.specs.Trades.{contracts_of}
+use Rattle.model.specs.History.{History, Event, Amounts, Listed, Opened, Traded, Closed}
 use Rattle.model.specs.Lawful.{Lawful}
 use Rattle.model.specs.Observed.{accounts_of, months_of, is_listed, expiry_at, rate_on, opened_days, latest_opened, open_session, next_from, session_day, trades_of, settlement_price}
-use Rattle.model.specs.Positions.{has_ended, contracts_in, corrected_to, adjustment_at}
+use Rattle.model.specs.Positions.{has_ended, corrected_to, adjustment_at}
 use Rattle.model.specs.Sessions.{Session, sessions_of, has_reached}
 use Rattle.model.specs.World.{World}
 use Rattle.model.proofs.Allowing.{open-on, trading, closing}
+use Rattle.model.proofs.Cells.{gain-none, trades-none}
 use Rattle.model.proofs.Order.{all_among, in_order}
 use Rattle.model.proofs.Expiring.{listed-stays, months-stay, listed-later, expiry-opened}
 
@@ -30,51 +28,25 @@ in-time-stays w h e day t i = (listed-stays h e t.month i.0, rw (months-stay w h
 all_stay : (w : World) (h : History) (e : Event) → AllByRecursion (InTime w h (session_day h)) (trades_of h) → AllByRecursion (InTime w (e ∷ h) (session_day h)) (trades_of h)
 all_stay w h e a = All-weaker (InTime w h (session_day h)) (InTime w (e ∷ h) (session_day h)) (in-time-stays w h e (session_day h)) (trades_of h) a
 
--- an event that neither opens nor trades
-same-trades : (w : World) (h : History) (e : Event) → AllByRecursion (InTime w h (session_day h)) (trades_of h) → AllByRecursion (InTime w (e ∷ h) (session_day h)) (trades_of h ++ [])
-same-trades w h e a = rw (append-nil (trades_of h)) (all_stay w h e a)
-
 -- the trades of the session are in months that expire after it
 pub trades-in-time : (w : World) (h : History) → Lawful w h → AllByRecursion (InTime w h (session_day h)) (trades_of h)
 trades-in-time w [] l = tt
-trades-in-time w (Entered x ∷ h) l = same-trades w h (Entered x) (trades-in-time w h l.1)
-trades-in-time w (Listed n ∷ h) l = same-trades w h (Listed n) (trades-in-time w h l.1)
-trades-in-time w (Published d r ∷ h) l = same-trades w h (Published d r) (trades-in-time w h l.1)
-trades-in-time w (Arbitrated d r ∷ h) l = same-trades w h (Arbitrated d r) (trades-in-time w h l.1)
 trades-in-time w (Opened d ∷ h) l = tt
 trades-in-time w (Traded t ∷ h) l =
     let x = trading w h t l.0 in
     let i : InTime w h (session_day h) t = (x.month, rw x.session.day x.before-expiry) in
     All-push (InTime w (Traded t ∷ h) (session_day h)) (trades_of h) t
     (all_stay w h (Traded t) (trades-in-time w h l.1)) (in-time-stays w h (Traded t) (session_day h) t i)
-trades-in-time w (Marked m p ∷ h) l = same-trades w h (Marked m p) (trades-in-time w h l.1)
-trades-in-time w (Closed c ∷ h) l = same-trades w h (Closed c) (trades-in-time w h l.1)
-trades-in-time w (Paid ∷ h) l = same-trades w h Paid (trades-in-time w h l.1)
-
--- none is in a month that expires before it or on it
-pub other-months : (w : World) (h : History) (m : ℕ) → Lawful w h → expiry_at w h m ≤ session_day h → AllByRecursion (λ t. t.month ≡ m → ⊥) (trades_of h)
-other-months w h m l b =
-    All-weaker (InTime w h (session_day h)) (λ t. t.month ≡ m → ⊥) (λ t x e. let y = ap (expiry_at w h) e in omega (arith, x.1)) (trades_of h)
-    (trades-in-time w h l)
-
-no-gain : (price before : ℕ) → gain_of (pos 0) price before ≡ pos 0
-unfolding gain_of
-no-gain price before = zero-*ℤ (pos price -ℤ pos before)
+trades-in-time w (e ∷ h) l = rw (append-nil (trades_of h)) (all_stay w h e (trades-in-time w h l.1))
 
 no-contracts : (a m : ℕ) (t : Trade) → (t.month ≡ m → ⊥) → contracts_of a m t ≡ pos 0
-no-contracts a m t n =
-    ap (λ b. pos (cond (b && eqb (party_of Bought t) a) t.quantity 0) -ℤ pos (cond (b && eqb (party_of Sold t) a) t.quantity 0)) (ne_eqb t.month m n)
+no-contracts a m t n = rw (ne_eqb t.month m n)
 
--- trades in other months change no position, and come to nothing
-pub no_change : (a m : ℕ) (ts : List Trade) → AllByRecursion (λ t. t.month ≡ m → ⊥) ts → position_change a m ts ≡ pos 0
-no_change a m [] n = refl
-no_change a m (t ∷ ts) n = ap₂ ◌+ℤ◌ (no-contracts a m t n.0) (no_change a m ts n.1)
-
-no-trades : (a m price : ℕ) (ts : List Trade) → AllByRecursion (λ t. t.month ≡ m → ⊥) ts → on_trades a m price ts ≡ pos 0
-unfolding on_trades
-no-trades a m price [] n = refl
-no-trades a m price (t ∷ ts) n =
-    ap₂ ◌+ℤ◌ (ap (λ c. gain_of c price t.price) (no-contracts a m t n.0) ∙ no-gain price t.price) (no-trades a m price ts n.1)
+-- none is in a month that expires before it or on it
+pub other-months : (w : World) (h : History) (a m : ℕ) → Lawful w h → expiry_at w h m ≤ session_day h → AllByRecursion (λ t. contracts_of a m t ≡ pos 0) (trades_of h)
+other-months w h a m l b =
+    All-weaker (InTime w h (session_day h)) (λ t. contracts_of a m t ≡ pos 0)
+    (λ t x. no-contracts a m t (λ e. let y = ap (expiry_at w h) e in omega (arith, x.1))) (trades_of h) (trades-in-time w h l)
 
 -- a month whose expiry is before the open session has expired
 pub expired-before : (w : World) (h : History) (m d : ℕ) → Lawful w h → open_session h ≡ Some d → m < length (months_of h) → expiry_at w h m < d
@@ -99,10 +71,8 @@ after w h c l a m i b =
   where
     nothing : has_ended w h m ≡ true → adjustment_at w h a m ≡ pos 0
     nothing x =
-        ap₂ ◌+ℤ◌ (no-trades a m (settlement_price w h m) (trades_of h) (other-months w h m l.1 (omega arith)))
-        (ap (λ p. gain_of p (settlement_price w h m) (corrected_to w (rate_on w h) (session_day h) (sessions_of w h) m))
-        (cond-true (has_ended w h m) (pos 0) (contracts_in a m (sessions_of w h)) x)
-        ∙ no-gain (settlement_price w h m) (corrected_to w (rate_on w h) (session_day h) (sessions_of w h) m))
+        let price = settlement_price w h m in
+        rw (trades-none a m price (trades_of h) (other-months w h a m l.1 (omega arith)), x, gain-none price (corrected_to w (rate_on w h) (session_day h) (sessions_of w h) m))
 
 abbrev Ended : World → List ℕ → List Session → Type 0
 Ended w ms ss = (a m : ℕ) → m < length ms → AllByRecursion (λ s. expiry_day w.kinds (get_or ms m 0) < s.day → s.amounts.adjustments a m ≡ pos 0) ss
@@ -126,14 +96,6 @@ lists w h n l e a m i =
 pub ended : (w : World) (h : History) → Lawful w h → (a m : ℕ) → m < length (months_of h)
     → AllByRecursion (λ s. expiry_at w h m < s.day → s.amounts.adjustments a m ≡ pos 0) (sessions_of w h)
 ended w [] l = λ a m i. tt
-ended w (Entered x ∷ h) l = still w (months_of h) (sessions_of w h) (ended w h l.1)
 ended w (Listed n ∷ h) l = lists w h n l (ended w h l.1)
-ended w (Published d r ∷ h) l = still w (months_of h) (sessions_of w h) (ended w h l.1)
-ended w (Arbitrated d r ∷ h) l = still w (months_of h) (sessions_of w h) (ended w h l.1)
-ended w (Opened d ∷ h) l = still w (months_of h) (sessions_of w h) (ended w h l.1)
-ended w (Traded t ∷ h) l = still w (months_of h) (sessions_of w h) (ended w h l.1)
-ended w (Marked m p ∷ h) l = still w (months_of h) (sessions_of w h) (ended w h l.1)
-ended w (Closed c ∷ h) l =
-    let e = ended w h l.1 in
-    still w (months_of h) (sessions_of w (Closed c ∷ h)) (λ a m i. (after w h c l a m i, e a m i))
-ended w (Paid ∷ h) l = still w (months_of h) (sessions_of w h) (ended w h l.1)
+ended w (Closed c ∷ h) l = still w (months_of h) (sessions_of w (Closed c ∷ h)) (λ a m i. (after w h c l a m i, ended w h l.1 a m i))
+ended w (e ∷ h) l = still w (months_of h) (sessions_of w h) (ended w h l.1)

@@ -1,22 +1,23 @@
 -- The expiries of the listed months: each is a session day, and no session jumps over it.
-use Rattle.std.proofs.Common.{◌≡◌, ℕ, ◌+◌, ◌<◌, ◌≤◌, Bool, true, false, cond, eqb, leb, ◌⊎◌, List, [], ◌∷◌, ◌++◌, length, Some, None, Option, unwrap_or, sym, refl, ap, ◌∙◌, inl, inr, arith}
+use Rattle.std.proofs.Common.{◌≡◌, ℕ, ◌+◌, ◌<◌, ◌≤◌, Bool, true, false, cond, ◌||◌, eqb, leb, ◌⊎◌, List, [], ◌∷◌, ◌++◌, length, Some, None, Option, unwrap_or, sym, refl, ap, ◌∙◌, inl, inr, arith}
 use Rattle.std.specs.List.{AllByRecursion}
 use Rattle.std.proofs.ByRecursion.{All-get_or, All-push, All-weaker}
 use Rattle.std.proofs.lemmas.List.{append-nil, length-append, get_or_append_left}
-use Rattle.std.proofs.lemmas.Bool.{true≢false, eq-eqb, leb-true, or_cases, or_left, or_right, cases_order}
+use Rattle.std.proofs.lemmas.List.Recursion.{or_push}
+use Rattle.std.proofs.lemmas.Bool.{true≢false, eq-eqb, leb-true, or_left, or_right, cases_order}
 use Rattle.dates.specs.Months.{first_day}
 use Rattle.calendar.specs.declared.kind.DayKind.{DayKind}
 use Rattle.calendar.specs.Spans.{First, first_session, expiry_of}
 use Rattle.calendar.proofs.Spans.{is-first}
 use Rattle.pricing.specs.Pricing.{expiry_day}
 use Rattle.model.specs.Accounts.{is_among}
-use Rattle.model.specs.History.{History, Event, Entered, Listed, Published, Arbitrated, Opened, Traded, Marked, Closed, Paid, listed, list_of}
+use Rattle.model.specs.History.{History, Event, Listed, Opened, listed, list_of}
 use Rattle.model.specs.Lawful.{Lawful}
 use Rattle.model.specs.Laws.{ExpiryMet}
 use Rattle.model.specs.Observed.{months_of, month_at, expiry_at, opened_days, latest_opened, next_from}
 use Rattle.model.specs.World.{World}
 use Rattle.model.proofs.Allowing.{listing}
-use Rattle.model.proofs.Order.{none≢some, all_among, in_order, next-first}
+use Rattle.model.proofs.Order.{all_among, in_order, next-first}
 
 -- A listed month keeps its index, its number and its expiry, whatever happens next.
 
@@ -36,19 +37,7 @@ expiry-first kinds n e is = by (leb n 1199) refl is
     by : (b : Bool) → leb n 1199 ≡ b → cond b (first_session kinds (first_day n) (first_day (n + 1))) None ≡ Some e
         → (n ≤ 1199) × First kinds (first_day n) (first_day (n + 1)) (Some e)
     by true t i = (leb-true n 1199 t, is-first kinds (first_day n) (first_day (n + 1)) (Some e) (sym i))
-    by false t i = absurd (none≢some i)
-
-among-left : (x : ℕ) (xs ys : List ℕ) → is_among eqb x xs ≡ true → is_among eqb x (xs ++ ys) ≡ true
-among-left x [] ys h = absurd (true≢false (sym h))
-among-left x (z ∷ zs) ys h =
-    elim (or_cases (eqb x z) (is_among eqb x zs) h) [
-      | inl e ↦ or_left (eqb x z) (is_among eqb x (zs ++ ys)) e
-      | inr e ↦ or_right (eqb x z) (is_among eqb x (zs ++ ys)) (among-left x zs ys e)
-    ]
-
-among-push : (x : ℕ) (xs : List ℕ) (y : ℕ) → x ≡ y → is_among eqb x (xs ++ y ∷ []) ≡ true
-among-push x [] y h = or_left (eqb x y) false (eq-eqb x y h)
-among-push x (z ∷ zs) y h = or_right (eqb x z) (is_among eqb x (zs ++ y ∷ [])) (among-push x zs y h)
+    by false t i = absurd cc
 
 -- the month n has an expiry, which is still to come or was opened
 record Expires (w : World) (latest : Option ℕ) (days : List ℕ) (n : ℕ) : Type 0 where
@@ -60,12 +49,15 @@ step : (w : World) (latest : Option ℕ) (days : List ℕ) (d to : ℕ) → Firs
     → (n : ℕ) → Expires w latest days n → Expires w (Some d) (days ++ d ∷ []) n
 step w latest days d to f n x = record { is = x.is; met = by x.met }
   where
+    more : is_among eqb (expiry_day w.kinds n) (days ++ d ∷ []) ≡ (is_among eqb (expiry_day w.kinds n) days || eqb (expiry_day w.kinds n) d)
+    more = or_push (is_among eqb (expiry_day w.kinds n)) (eqb (expiry_day w.kinds n)) refl (λ _ _. refl) days d
+
     by : (next_from w latest ≤ expiry_day w.kinds n) ⊎ (is_among eqb (expiry_day w.kinds n) days ≡ true)
         → (d + 1 ≤ expiry_day w.kinds n) ⊎ (is_among eqb (expiry_day w.kinds n) (days ++ d ∷ []) ≡ true)
-    by (inr a) = inr (among-left (expiry_day w.kinds n) days (d ∷ []) a)
+    by (inr a) = inr (more ∙ or_left (is_among eqb (expiry_day w.kinds n) days) (eqb (expiry_day w.kinds n) d) a)
     by (inl b) =
         elim (cases_order (expiry_day w.kinds n) d) [
-          | inl e ↦ inr (among-push (expiry_day w.kinds n) days d e)
+          | inl e ↦ inr (more ∙ or_right (is_among eqb (expiry_day w.kinds n) days) (eqb (expiry_day w.kinds n) d) (eq-eqb (expiry_day w.kinds n) d e))
           | inr (inl l) ↦
               absurd (true≢false (sym (expiry-first w.kinds n (expiry_day w.kinds n) x.is).1.2 ∙ f.3 (expiry_day w.kinds n) b l))
           | inr (inr l) ↦ inl (omega arith)
@@ -83,25 +75,14 @@ listed-later w h n l =
     by None expiry s d = omega arith
     by (Some x) expiry s d = omega arith
 
--- an event that neither lists nor opens
-still : (w : World) (h : History) → AllByRecursion (Expires w (latest_opened h) (opened_days h)) (months_of h)
-    → AllByRecursion (Expires w (latest_opened h) (opened_days h ++ [])) (months_of h ++ [])
-still w h a = rw (append-nil (opened_days h), append-nil (months_of h)) a
-
 expires : (w : World) (h : History) → Lawful w h → AllByRecursion (Expires w (latest_opened h) (opened_days h)) (months_of h)
 expires w [] l = tt
-expires w (Entered x ∷ h) l = still w h (expires w h l.1)
 expires w (Listed n ∷ h) l =
     rw (append-nil (opened_days h)) (All-push (Expires w (latest_opened h) (opened_days h)) (months_of h) n (expires w h l.1) (let x = listed-later w h n l in record { is = x.0; met = inl x.1 }))
-expires w (Published d r ∷ h) l = still w h (expires w h l.1)
-expires w (Arbitrated d r ∷ h) l = still w h (expires w h l.1)
 expires w (Opened d ∷ h) l =
     rw (append-nil (months_of h)) (All-weaker (Expires w (latest_opened h) (opened_days h)) (Expires w (Some d) (opened_days h ++ d ∷ []))
     (step w (latest_opened h) (opened_days h) d (next_from w (latest_opened h) + 60) (next-first w h d l)) (months_of h) (expires w h l.1))
-expires w (Traded t ∷ h) l = still w h (expires w h l.1)
-expires w (Marked m p ∷ h) l = still w h (expires w h l.1)
-expires w (Closed c ∷ h) l = still w h (expires w h l.1)
-expires w (Paid ∷ h) l = still w h (expires w h l.1)
+expires w (e ∷ h) l = rw (append-nil (opened_days h), append-nil (months_of h)) (expires w h l.1)
 
 expires-at : (w : World) (h : History) (m : ℕ) → Lawful w h → m < length (months_of h) → Expires w (latest_opened h) (opened_days h) (month_at h m)
 expires-at w h m l i = All-get_or (Expires w (latest_opened h) (opened_days h)) (months_of h) m 0 i (expires w h l)

@@ -1,5 +1,5 @@
 -- Each reserve day from the first closed session to the latest has a rate.
-use Rattle.std.proofs.Common.{◌≡◌, ℕ, ◌≤◌, List, [], ◌∷◌, ◌++◌, None, filter, Option, refl, ap, ◌∙◌, arith}
+use Rattle.std.proofs.Common.{◌≡◌, ℕ, ◌≤◌, List, [], ◌∷◌, ◌++◌, None, filter, Option, refl, arith}
 use Rattle.std.proofs.lemmas.List.Elements.{filter-append}
 use Rattle.calendar.specs.Kinds.{is_reserve}
 use Rattle.calendar.specs.Spans.{reserve_days, first_in}
@@ -16,16 +16,16 @@ use Rattle.model.proofs.Valuing.{AllRightly, all_right}
 
 first-none : (xs : List ℕ) → first_in xs ≡ None → xs ≡ []
 first-none [] e = refl
-first-none (x ∷ xs) e = absurd (let z : ◌≡◌ {A = ℕ} 0 1 = cc in omega arith)
+first-none (x ∷ xs) e = absurd cc
 
 -- days that have rates, and more such days
 rated-append : (rates : ℕ → Option ℕ) (xs ys : List ℕ) → first_unrated rates xs ≡ None → first_unrated rates ys ≡ None → first_unrated rates (xs ++ ys) ≡ None
 rated-append rates xs ys e f =
-    ap first_in (filter-append (is_unrated rates) xs ys ∙ ap (λ zs. zs ++ filter (is_unrated rates) ys) (first-none (filter (is_unrated rates) xs) e)) ∙ f
+    rw (filter-append (is_unrated rates) xs ys, first-none (filter (is_unrated rates) xs) e) f
 
 module _ (w : World) (rates : ℕ → Option ℕ) (a m expiry : ℕ) where
   no_gap : (day : ℕ) → first_unrated rates (reserve_days w.kinds day day) ≡ None
-  no_gap day = ap (first_unrated rates) (days-none is_reserve w.kinds day day (omega arith))
+  no_gap day = rw (days-none is_reserve w.kinds day day (omega arith))
 
   rated-from : (s : Session) (ss : List Session) → Falling (s ∷ ss) → AllRightly w a m expiry rates (s ∷ ss)
       → first_unrated rates (reserve_days w.kinds (oldest_day s.day ss) s.day) ≡ None
@@ -33,9 +33,8 @@ module _ (w : World) (rates : ℕ → Option ℕ) (a m expiry : ℕ) where
   rated-from r (s ∷ ss) f h =
       let first = oldest_day s.day ss in
       let later : s.day ≤ r.day = let l = f.0.0 in omega arith in
-      ap (first_unrated rates) (days-split is_reserve w.kinds first s.day r.day (oldest-first s ss f.1) later)
-      ∙ rated-append rates (reserve_days w.kinds first s.day) (reserve_days w.kinds s.day r.day)
-      (rated-from s ss f.1 h.1) h.0.rated
+      rw (days-split is_reserve w.kinds first s.day r.day (oldest-first s ss f.1) later)
+      (rated-append rates (reserve_days w.kinds first s.day) (reserve_days w.kinds s.day r.day) (rated-from s ss f.1 h.1) h.0.rated)
 
   rated-all : (ss : List Session) → Falling ss → AllRightly w a m expiry rates ss → first_unrated rates (reserve_days w.kinds (oldest_day 0 ss) (newest_day ss)) ≡ None
   rated-all [] f h = no_gap 0

@@ -12,7 +12,6 @@ pub mod Expiring
 pub mod Falling
 pub mod Gaps
 pub mod Limits
-pub mod Numbered
 pub mod Order
 pub mod Rated
 pub mod Reliance

@@ -1,15 +1,15 @@
 -- No position passes 500,000 contracts.
-use Rattle.std.proofs.Common.{◌≡◌, ℕ, ◌<◌, ◌≤◌, Bool, true, false, cond, ◌&&◌, eqb, ltb, leb, ◌⊎◌, List, [], ◌∷◌, ◌++◌, length, get_or, ℤ, pos, ◌+ℤ◌, ◌-ℤ◌, nat_abs, sym, refl, ◌∙◌, subst, subst₂, inl, inr, arith}
+use Rattle.std.proofs.Common.{◌≡◌, ℕ, ◌<◌, ◌≤◌, Bool, true, false, cond, ◌&&◌, eqb, ltb, leb, List, [], ◌∷◌, ◌++◌, length, get_or, ℤ, pos, ◌+ℤ◌, ◌-ℤ◌, nat_abs, sym, refl, ◌∙◌, inl, inr, arith}
 use borrow.Author.Differences.{ints}
 use Rattle.std.specs.List.{AllByRecursion}
 use Rattle.std.proofs.lemmas.List.{append-nil, length_push, get_or_append_left}
-use Rattle.std.proofs.lemmas.Bool.{cases_lt, eqb-true, lt-ltb, le-ltb, leb-false, lt-leb, and_left}
+use Rattle.std.proofs.lemmas.Bool.{cases_lt, eqb-true, lt-ltb, le-ltb, leb-false, lt-leb, and_left, cond_both}
 use Rattle.pricing.specs.Pricing.{expiry_day}
 use Rattle.settlement.specs.declared.trades.Trade.{Trade}
 use Rattle.settlement.specs.Trades.{contracts_of, position_change}
 use Rattle.settlement.proofs.Totals.{total-append}
 use Rattle.model.specs.World.{World}
-use Rattle.model.specs.History.{History, Entered, Listed, Published, Arbitrated, Opened, Traded, Marked, Closed, Paid, traded, gather}
+use Rattle.model.specs.History.{History, Listed, Traded, Closed, traded, gather}
 use Rattle.model.specs.Observed.{months_of}
 use Rattle.model.specs.Sessions.{Session, closed_with, sessions_of, has_reached}
 use Rattle.model.specs.Positions.{has_ended, position_of}
@@ -22,8 +22,7 @@ Within p = nat_abs p ≤ 500000
 
 -- 0, or what is within
 pub cond-within : (b : Bool) (p : ℤ) → Within p → Within (cond b (pos 0) p)
-cond-within true p k = omega (arith, ints)
-cond-within false p k = k
+cond-within b p k = cond_both b (pos 0) p Within (λ _. omega (arith, ints)) (λ _. k)
 
 -- a trade: its buyer and its seller stay within, and nobody else has contracts of it
 trade-within : (held : ℕ → ℕ → ℤ) (a m : ℕ) (t : Trade) → (t.buyer ≡ t.seller → ⊥)
@@ -33,8 +32,6 @@ trade-within held a m t apart buys sells k = by (eqb t.month m) (eqb t.seller a)
   where
     by : (x y z : Bool) → eqb t.month m ≡ x → eqb t.seller a ≡ y → eqb t.buyer a ≡ z
         → Within (held a m +ℤ (pos (cond (x && y) t.quantity 0) -ℤ pos (cond (x && z) t.quantity 0)))
-    by false y z e f g = omega (arith, ints)
-    by true false false e f g = omega (arith, ints)
     by true true false e f g =
         let s : Within (held a m +ℤ pos t.quantity) = rw (eqb-true t.month m e, eqb-true t.seller a f) at sells in
         omega (arith, ints)
@@ -42,6 +39,7 @@ trade-within held a m t apart buys sells k = by (eqb t.month m) (eqb t.seller a)
         let b : Within (held a m -ℤ pos t.quantity) = rw (eqb-true t.month m e, eqb-true t.buyer a g) at buys in
         omega (arith, ints)
     by true true true e f g = absurd (apart (eqb-true t.buyer a g ∙ sym (eqb-true t.seller a f)))
+    by x y z e f g = omega (arith, ints)
 
 -- whether a month has expired, by the months and the closed sessions, and what is held of it: 0 once it has
 abbrev pub expired_by : World → ℕ → List ℕ → List Session → Bool
@@ -63,27 +61,26 @@ unreached d e (s ∷ ss) f le = let k = f.0 in lt-leb e s.day (omega arith)
 module _ (w : World) (m : ℕ) (months : List ℕ) (ss : List Session) (raw : ℤ) (k : Within (held_by w m months ss raw)) where
   -- an event that adds neither a month nor a session nor a trade
   pub silent : Within (held_by w m (months ++ []) ss raw)
-  silent = subst (λ ms. Within (held_by w m ms ss raw)) (sym (append-nil months)) k
+  silent = rw (append-nil months) k
 
   -- of a month that had not expired
   held : expired_by w m months ss ≡ false → Within raw
-  held e = subst (λ b. Within (cond b (pos 0) raw)) e k
+  held e = rw e at k
 
   -- a month more
   pub listing-within : (n : ℕ) → Within (held_by w m (months ++ n ∷ []) ss raw)
-  listing-within n = by (cases_lt m (length months))
-    where
-      by : (m < length months) ⊎ (length months ≤ m) → Within (held_by w m (months ++ n ∷ []) ss raw)
-      by (inl lt) =
-          subst₂ (λ b x. Within (cond (b && has_reached (expiry_day w.kinds x) ss) (pos 0) raw))
-          (lt-ltb m (length months) lt ∙ sym (lt-ltb m (length (months ++ n ∷ [])) (rw (length_push months n) (omega arith))))
-          (sym (get_or_append_left months (n ∷ []) 0 m lt)) k
-      by (inr le) = cond-within (expired_by w m (months ++ n ∷ []) ss) raw (held (unlisted w m months ss le))
+  listing-within n =
+      elim (cases_lt m (length months)) [
+        | inl lt ↦
+            rw (lt-ltb m (length (months ++ n ∷ [])) (rw (length_push months n) (omega arith)), get_or_append_left months (n ∷ []) 0 m lt)
+            (rw (lt-ltb m (length months) lt) at k)
+        | inr le ↦ cond-within (expired_by w m (months ++ n ∷ []) ss) raw (held (unlisted w m months ss le))
+      ]
 
   -- a session more, later than those before it
   closing-within : (s : Session) → AllByRecursion (λ r. r.day < s.day) ss → Within (held_by w m (months ++ []) (s ∷ ss) raw)
   closing-within s later =
-      subst (λ ms. Within (held_by w m ms (s ∷ ss) raw)) (sym (append-nil months)) (by (expired_by w m months (s ∷ ss)) refl)
+      rw (append-nil months) (by (expired_by w m months (s ∷ ss)) refl)
     where
       earlier : (x : Bool) (e : ℕ) → (x && leb e s.day) ≡ false → (x && has_reached e ss) ≡ false
       earlier true e f = let n = leb-false e s.day f in unreached s.day e ss later (omega arith)
@@ -95,7 +92,7 @@ module _ (w : World) (m : ℕ) (months : List ℕ) (ss : List Session) (raw : �
 
   -- contracts more
   trading-within : (x : ℤ) → Within (held_by w m months ss raw +ℤ x) → Within (held_by w m (months ++ []) ss (raw +ℤ x))
-  trading-within x changed = subst (λ ms. Within (held_by w m ms ss (raw +ℤ x))) (sym (append-nil months)) (by (expired_by w m months ss) changed)
+  trading-within x changed = rw (append-nil months) (by (expired_by w m months ss) changed)
     where
       by : (b : Bool) → Within (cond b (pos 0) raw +ℤ x) → Within (cond b (pos 0) (raw +ℤ x))
       by true c = omega (arith, ints)
@@ -118,22 +115,17 @@ still w h a m k =
 
 pub positions-limited : PositionsLimited
 positions-limited w [] a m l = cond-within (has_ended w [] m) (pos 0) (omega (arith, ints))
-positions-limited w (Entered x ∷ h) a m l = still w h a m (positions-limited w h a m l.1)
 positions-limited w (Listed n ∷ h) a m l =
     quiet w h a m (months_of h ++ n ∷ []) (sessions_of w h)
     (listing-within w m (months_of h) (sessions_of w h) (position_change a m (gather traded h)) (positions-limited w h a m l.1) n)
-positions-limited w (Published d r ∷ h) a m l = still w h a m (positions-limited w h a m l.1)
-positions-limited w (Arbitrated d r ∷ h) a m l = still w h a m (positions-limited w h a m l.1)
-positions-limited w (Opened d ∷ h) a m l = still w h a m (positions-limited w h a m l.1)
 positions-limited w (Traded t ∷ h) a m l =
     let r = trading w h t l.0 in
     let k = positions-limited w h a m l.1 in
-    subst (λ x. Within (held_by w m (months_of h ++ []) (sessions_of w h) x)) (one_more a m (gather traded h) t)
+    rw (sym (one_more a m (gather traded h) t))
     (trading-within w m (months_of h) (sessions_of w h) (position_change a m (gather traded h)) k (contracts_of a m t)
     (trade-within (position_of w h) a m t r.apart r.buyer-limit r.seller-limit k))
-positions-limited w (Marked x p ∷ h) a m l = still w h a m (positions-limited w h a m l.1)
 positions-limited w (Closed c ∷ h) a m l =
     quiet w h a m (months_of h ++ []) (sessions_of w (Closed c ∷ h))
     (closing-within w m (months_of h) (sessions_of w h) (position_change a m (gather traded h)) (positions-limited w h a m l.1) (closed_with w h c)
     (falling w (Closed c ∷ h) l).0)
-positions-limited w (Paid ∷ h) a m l = still w h a m (positions-limited w h a m l.1)
+positions-limited w (e ∷ h) a m l = still w h a m (positions-limited w h a m l.1)

@@ -1,16 +1,15 @@
 -- A rate once known stays.
-use Rattle.std.proofs.Common.{◌≡◌, ℕ, Bool, true, false, cond, not, eqb, List, [], ◌∷◌, ◌++◌, is_some, Some, None, filter, Option, unwrap_or, sym, refl, ap, ◌∙◌, ap₂}
+use Rattle.std.proofs.Common.{◌≡◌, ℕ, Bool, true, false, cond, not, eqb, List, [], ◌∷◌, ◌++◌, is_some, Some, None, filter, Option, sym, refl, ap, ◌∙◌}
 use Rattle.std.proofs.lemmas.Bool.{eqb-true}
+use Rattle.std.proofs.lemmas.Option.{none-some}
 use Rattle.calendar.specs.Spans.{first_in}
-use Rattle.interest.specs.Price.{day_factor}
 use Rattle.correction.specs.Gaps.{factors, is_unrated, first_unrated}
-use Rattle.model.specs.History.{History, Event, Entered, Listed, Published, Arbitrated, Opened, Traded, Marked, Closed, Paid, rated, newest, or_else}
+use Rattle.model.specs.History.{History, Event, Published, Arbitrated, rated, newest, or_else}
 use Rattle.model.specs.Lawful.{Lawful}
 use Rattle.model.specs.Laws.{RatesStay}
 use Rattle.model.specs.Observed.{rate_on}
 use Rattle.model.specs.World.{World}
 use Rattle.model.proofs.Allowing.{publishing, arbitrating}
-use Rattle.model.proofs.Order.{none≢some}
 
 -- a day that had no rate is given one: any other keeps its own
 given : (w : World) (h : History) (x y d r : ℕ) → rate_on w h x ≡ None → rate_on w h d ≡ Some r
@@ -18,20 +17,14 @@ given : (w : World) (h : History) (x y d r : ℕ) → rate_on w h x ≡ None →
 given w h x y d r none known = by (eqb d x) refl
   where
     by : (b : Bool) → eqb d x ≡ b → or_else (or_else (cond b (Some y) None) (newest (rated d) h)) (w.rates d) ≡ Some r
-    by true e = absurd (none≢some (sym none ∙ ap (rate_on w h) (sym (eqb-true d x e)) ∙ known))
+    by true e = absurd (none-some r (sym none ∙ ap (rate_on w h) (sym (eqb-true d x e)) ∙ known))
     by false e = known
 
 -- a rate stays, whatever happens next
 pub rate-stays : (w : World) (h : History) (e : Event) (d r : ℕ) → Lawful w (e ∷ h) → rate_on w h d ≡ Some r → rate_on w (e ∷ h) d ≡ Some r
-rate-stays w h (Entered x) d r l known = known
-rate-stays w h (Listed n) d r l known = known
 rate-stays w h (Published x y) d r l known = given w h x y d r (publishing w h x y l.0) known
 rate-stays w h (Arbitrated x y) d r l known = given w h x y d r (arbitrating w h x y l.0) known
-rate-stays w h (Opened x) d r l known = known
-rate-stays w h (Traded t) d r l known = known
-rate-stays w h (Marked m p) d r l known = known
-rate-stays w h (Closed c) d r l known = known
-rate-stays w h Paid d r l known = known
+rate-stays w h e d r l known = known
 
 pub rates-stay : RatesStay
 rates-stay w [] h d r l known = known
@@ -48,7 +41,7 @@ rated-head rates d days h = by (rates d) refl h
   where
     by : (o : Option ℕ) → rates d ≡ o → first_in (cond (not (is_some o)) (d ∷ filter (is_unrated rates) days) (filter (is_unrated rates) days)) ≡ None
         → ((r : ℕ) × (rates d ≡ Some r)) × (first_unrated rates days ≡ None)
-    by None e f = absurd (none≢some (sym f))
+    by None e f = absurd cc
     by (Some r) e f = ((r, e), f)
 
 -- days that all have rates keep their factors where the rates stay, and they all have rates there
@@ -56,11 +49,10 @@ pub factors-stay : (rates rates' : ℕ → Option ℕ) (days : List ℕ) → Kep
 factors-stay rates rates' [] k h = refl
 factors-stay rates rates' (d ∷ days) k h =
     let p = rated-head rates d days h in
-    ap₂ ◌∷◌ (ap (λ o. day_factor (unwrap_or o 0)) (k d p.0.0 p.0.1 ∙ sym p.0.1)) (factors-stay rates rates' days k p.1)
+    rw (k d p.0.0 p.0.1, p.0.1, factors-stay rates rates' days k p.1)
 
 pub rated-stay : (rates rates' : ℕ → Option ℕ) (days : List ℕ) → Kept rates rates' → first_unrated rates days ≡ None → first_unrated rates' days ≡ None
 rated-stay rates rates' [] k h = refl
 rated-stay rates rates' (d ∷ days) k h =
     let p = rated-head rates d days h in
-    ap (λ o. first_in (cond (not (is_some o)) (d ∷ filter (is_unrated rates') days) (filter (is_unrated rates') days))) (k d p.0.0 p.0.1)
-    ∙ rated-stay rates rates' days k p.1
+    rw (k d p.0.0 p.0.1) (rated-stay rates rates' days k p.1)

@@ -1,5 +1,5 @@
 -- What the close of a session can rely on: positions, prices and the gap are small.
-use Rattle.std.proofs.Common.{◌≡◌, ℕ, ◌+◌, ◌-◌, ◌*◌, ◌^◌, ◌<◌, ◌≤◌, Bool, true, false, cond, eqb, List, [], ◌∷◌, ◌++◌, map, length, pos, ◌+ℤ◌, ◌-ℤ◌, nat_abs, Some, None, Option, unwrap_or, sym, refl, ap, ◌∙◌, subst, inl, inr, mul-le-mul_left, arith}
+use Rattle.std.proofs.Common.{◌≡◌, ℕ, ◌+◌, ◌-◌, ◌*◌, ◌^◌, ◌<◌, ◌≤◌, Bool, true, false, cond, eqb, List, [], ◌∷◌, map, length, pos, ◌+ℤ◌, ◌-ℤ◌, nat_abs, Some, None, Option, unwrap_or, sym, refl, ap, ◌∙◌, inl, inr, mul-le-mul_left, arith}
 use borrow.Author.Differences.{ints}
 use Rattle.std.specs.List.{range_with_len, AllByRecursion}
 use Rattle.std.proofs.lemmas.List.FromFn.{length-range_with_len}
@@ -16,16 +16,17 @@ use Rattle.interest.proofs.Bounds.{day-factor-most}
 use Rattle.interest.proofs.Carried.{corrected-none, corrected-first}
 use Rattle.settlement.specs.Trades.{contracts_of, position_change}
 use Rattle.model.specs.World.{World}
-use Rattle.model.specs.History.{History, Amounts, Entered, Listed, Published, Arbitrated, Opened, Traded, Marked, Closed, Paid, traded, written, or_else, gather}
+use Rattle.model.specs.History.{History, Amounts, Listed, Opened, Marked, Closed, traded, written, or_else, gather}
 use Rattle.model.specs.Observed.{months_of, is_listed, expiry_at, rate_on, latest_opened, session_day, open_session, next_from, trades_of, mark_of, settlement_price}
 use Rattle.model.specs.Sessions.{Session, added, sessions_of, latest_closed, has_reached, gap_to}
 use Rattle.model.specs.Positions.{has_ended, contracts_in, position_of, carried_of, corrected_to}
 use Rattle.model.specs.Lawful.{Lawful}
 use Rattle.model.proofs.Allowing.{open-on, marking, opening, closing}
 use Rattle.model.proofs.Dealt.{dealt-split}
-use Rattle.model.proofs.Ended.{other-months, no_change}
-use Rattle.model.proofs.Limits.{Within, held_by, cond-within, unreached, silent, listing-within, positions-limited}
-use Rattle.model.proofs.Order.{none≢some, next-first, open-later}
+use Rattle.model.proofs.Cells.{total-none}
+use Rattle.model.proofs.Ended.{other-months}
+use Rattle.model.proofs.Limits.{cond-within, unreached, silent, listing-within, positions-limited}
+use Rattle.model.proofs.Order.{next-first, open-later}
 
 -- an expired month expired before the open session
 expired-earlier : (w : World) (h : History) (d m : ℕ) → Lawful w h → open_session h ≡ Some d → has_ended w h m ≡ true → expiry_at w h m < d
@@ -48,7 +49,7 @@ carried-is w h d l o a m = by (has_ended w h m) refl
         → cond b (pos 0) (contracts_in a m (sessions_of w h)) ≡ cond b (pos 0) (position_change a m (gather traded h)) -ℤ position_change a m (trades_of h)
     by true x =
         let e = expired-earlier w h d m l o x in
-        let n = no_change a m (trades_of h) (other-months w h m l (omega (arith, (open-on h d o).day))) in
+        let n = total-none (contracts_of a m) (trades_of h) (other-months w h a m l (omega (arith, (open-on h d o).day))) in
         omega (arith, ints)
     by false x = omega (arith, ints, split)
 
@@ -59,39 +60,23 @@ carried-closed w h l o a m =
     let f : contracts_in a m (sessions_of w h) ≡ position_change a m (gather traded h) = omega (arith, ints, e) in
     ap (λ x. cond (has_ended w h m) (pos 0) x) f
 
--- an event that adds neither a month nor a session
-carried-still : (w : World) (h : History) (a m : ℕ) → Within (carried_of w h a m)
-    → Within (held_by w m (months_of h ++ []) (sessions_of w h) (contracts_in a m (sessions_of w h)))
-carried-still w h a m k = silent w m (months_of h) (sessions_of w h) (contracts_in a m (sessions_of w h)) k
-
 -- no position that a session began with passes 500,000 contracts
 pub carried-limited : (w : World) (h : History) → Lawful w h → (a m : ℕ) → nat_abs (carried_of w h a m) ≤ 500000
 carried-limited w [] l a m = cond-within (has_ended w [] m) (pos 0) (omega (arith, ints))
-carried-limited w (Entered x ∷ h) l a m = carried-still w h a m (carried-limited w h l.1 a m)
 carried-limited w (Listed n ∷ h) l a m =
     listing-within w m (months_of h) (sessions_of w h) (contracts_in a m (sessions_of w h)) (carried-limited w h l.1 a m) n
-carried-limited w (Published d r ∷ h) l a m = carried-still w h a m (carried-limited w h l.1 a m)
-carried-limited w (Arbitrated d r ∷ h) l a m = carried-still w h a m (carried-limited w h l.1 a m)
-carried-limited w (Opened d ∷ h) l a m = carried-still w h a m (carried-limited w h l.1 a m)
-carried-limited w (Traded t ∷ h) l a m = carried-still w h a m (carried-limited w h l.1 a m)
-carried-limited w (Marked x p ∷ h) l a m = carried-still w h a m (carried-limited w h l.1 a m)
 carried-limited w (Closed c ∷ h) l a m = rw (carried-closed w (Closed c ∷ h) l refl a m) (positions-limited w (Closed c ∷ h) a m l)
-carried-limited w (Paid ∷ h) l a m = carried-still w h a m (carried-limited w h l.1 a m)
+carried-limited w (e ∷ h) l a m =
+    silent w m (months_of h) (sessions_of w h) (contracts_in a m (sessions_of w h)) (carried-limited w h l.1 a m)
 
 -- a mark of a session is at most 10,000,000
 mark-limited : (w : World) (h : History) → Lawful w h → (m : ℕ) → unwrap_or (mark_of h m) 0 ≤ 10000000
 mark-limited w [] l m = omega arith
-mark-limited w (Entered x ∷ h) l m = mark-limited w h l.1 m
-mark-limited w (Listed n ∷ h) l m = mark-limited w h l.1 m
-mark-limited w (Published d r ∷ h) l m = mark-limited w h l.1 m
-mark-limited w (Arbitrated d r ∷ h) l m = mark-limited w h l.1 m
 mark-limited w (Opened d ∷ h) l m = omega arith
-mark-limited w (Traded t ∷ h) l m = mark-limited w h l.1 m
 mark-limited w (Marked x p ∷ h) l m =
     let k = mark-limited w h l.1 m in
     cond_both (eqb m x) (Some p) None (λ o. unwrap_or (or_else o (mark_of h m)) 0 ≤ 10000000) (λ e. marking w h x p l.0) (λ e. k)
-mark-limited w (Closed c ∷ h) l m = mark-limited w h l.1 m
-mark-limited w (Paid ∷ h) l m = mark-limited w h l.1 m
+mark-limited w (e ∷ h) l m = mark-limited w h l.1 m
 
 -- a settlement price is at most 10,000,000
 pub price-limited : (w : World) (h : History) → Lawful w h → (m : ℕ) → settlement_price w h m ≤ 10000000
@@ -110,15 +95,9 @@ prices-limited w (e ∷ h) l = by (written e) (prices-limited w h l.1)
 -- with no session open the latest session is the latest that was closed
 pub closed-latest : (w : World) (h : History) → Lawful w h → open_session h ≡ None → latest_opened h ≡ latest_closed w h
 closed-latest w [] l o = refl
-closed-latest w (Entered x ∷ h) l o = closed-latest w h l.1 o
-closed-latest w (Listed n ∷ h) l o = closed-latest w h l.1 o
-closed-latest w (Published d r ∷ h) l o = closed-latest w h l.1 o
-closed-latest w (Arbitrated d r ∷ h) l o = closed-latest w h l.1 o
-closed-latest w (Opened d ∷ h) l o = absurd (none≢some (sym o))
-closed-latest w (Traded t ∷ h) l o = closed-latest w h l.1 o
-closed-latest w (Marked m p ∷ h) l o = closed-latest w h l.1 o
+closed-latest w (Opened d ∷ h) l o = absurd cc
 closed-latest w (Closed c ∷ h) l o = let s = (closing w h c l.0).session in s.latest ∙ ap Some (sym s.day)
-closed-latest w (Paid ∷ h) l o = closed-latest w h l.1 o
+closed-latest w (e ∷ h) l o = closed-latest w h l.1 o
 
 -- a range has no more days of a kind than days
 days-few : (t : DayKind → Bool) (k : ℕ → DayKind) (from to : ℕ) → length (days_by t k from to) ≤ to - from
@@ -137,19 +116,13 @@ first_short w d (s ∷ ss) latest e f =
 
 -- the gap of an open session has at most 60 reserve days
 pub gap-short : (w : World) (h : History) (d : ℕ) → Lawful w h → open_session h ≡ Some d → length (gap_to w d (sessions_of w h)) ≤ 60
-gap-short w [] d l o = absurd (none≢some o)
-gap-short w (Entered x ∷ h) d l o = gap-short w h d l.1 o
-gap-short w (Listed n ∷ h) d l o = gap-short w h d l.1 o
-gap-short w (Published x r ∷ h) d l o = gap-short w h d l.1 o
-gap-short w (Arbitrated x r ∷ h) d l o = gap-short w h d l.1 o
+gap-short w [] d l o = absurd cc
 gap-short w (Opened x ∷ h) d l o =
     let q : x ≡ d = cc in
-    subst (λ y. length (gap_to w y (sessions_of w h)) ≤ 60) q
+    rw (sym q)
     (first_short w x (sessions_of w h) (latest_opened h) (closed-latest w h l.1 (opening w h x l.0)) (next-first w h x l))
-gap-short w (Traded t ∷ h) d l o = gap-short w h d l.1 o
-gap-short w (Marked m p ∷ h) d l o = gap-short w h d l.1 o
-gap-short w (Closed c ∷ h) d l o = absurd (none≢some o)
-gap-short w (Paid ∷ h) d l o = gap-short w h d l.1 o
+gap-short w (Closed c ∷ h) d l o = absurd cc
+gap-short w (e ∷ h) d l o = gap-short w h d l.1 o
 
 -- a day adds at most 55,089 to a price of at most 20,000,000
 day-adds : (price g : ℕ) → price ≤ 20000000 → g ≤ 100275437 → corrected_day price g ≤ price + 55089

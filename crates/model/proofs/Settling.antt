@@ -30,8 +30,7 @@ corrected-seen w rates day m (s ∷ ss) = refl
 refused-for : (w : World) (rates : ℕ → Option ℕ) (day m : ℕ) (ss : List Session) → length (gap_to w day ss) ≤ 60 → (e : Uncorrected)
     → Uncorrectable w.kinds rates (settled_in m ss) day e
     → (missing : ℕ) × (NotCorrected e ≡ NotCorrected (MissingRate missing)) × (first_unrated rates (gap_to w day ss) ≡ Some missing)
-refused-for w rates day m [] short TooLong u = absurd u
-refused-for w rates day m [] short (MissingRate d) u = absurd u
+refused-for w rates day m [] short e u = absurd u
 refused-for w rates day m (s ∷ ss) short TooLong u = absurd (omega arith)
 refused-for w rates day m (s ∷ ss) short (MissingRate d) u = (d, refl, u.1)
 

@@ -1,10 +1,11 @@
 -- The rows of an import and of a written sheet, against the faults of reading and writing.
-use Rattle.std.proofs.Common.{◌≡◌, ℕ, suc, ◌+◌, ◌*◌, ◌<◌, ◌≤◌, Bool, true, false, cond, not, ◌&&◌, ◌||◌, eqb, ltb, leb, List, [], ◌∷◌, length, get_or, Some, Decides, sym, refl, ◌∙◌, ap₂, arith}
-use Rattle.std.specs.List.{range_with_len, AllByRecursion}
+use Rattle.std.proofs.Common.{◌≡◌, ℕ, suc, ◌+◌, ◌*◌, ◌<◌, ◌≤◌, Bool, true, false, cond, not, ◌&&◌, ◌||◌, eqb, ltb, leb, List, [], ◌∷◌, length, Some, Decides, refl, ◌∙◌, zero-add, arith, rules}
+use Rattle.std.specs.List.{range_with_len}
 use Rattle.std.proofs.lemmas.List.FromFn.{length-range_with_len, get_or-range_with_len}
-use Rattle.std.proofs.ByRecursion.{All-get_or, All-from_get_or, Decides-by_and}
-use Rattle.std.proofs.lemmas.Bool.{true≢false, leb-true, le-leb, lt-ltb, le-ltb}
-use Rattle.std.proofs.lemmas.Bool.Decides.{nat_tests, Decides-eqb, Decides-and, Decides-like}
+use Rattle.std.proofs.ByRecursion as recursion
+use Rattle.std.proofs.lemmas.Bool.{leb-true, le-leb, lt-ltb, le-ltb, false_from_ne_true}
+use Rattle.std.proofs.lemmas.Bool.Decides.{nat_tests, Decides-eqb, Decides-and, Decides-like, Decides-by_and}
+use Rattle.std.proofs.lemmas.Slice.Eq.{compares_Decides}
 use Rattle.refusal.specs.Refusals.{first_row}
 use Rattle.sheet.specs.declared.trade.SheetFault.{SheetFault}
 use Rattle.sheet.specs.declared.trade.SheetFault.TheVariants.{Length, Count, Day, Code}
@@ -21,38 +22,19 @@ use Rattle.model.specs.Sheets.{same_bytes, is_code, is_each, is_sheet_of, write_
 decides-leb : (a b : ℕ) → Decides (leb a b) (a ≤ b)
 decides-leb a b = (leb-true a b, le-leb a b)
 
-not_made : (r : Bool) {P : Type 0} → Decides r P → (P → ⊥) → r ≡ false
-not_made true d no' = absurd (no' (d.0 refl))
-not_made false d no' = refl
-
-decides-same : (xs ys : List ℕ) → Decides (same_bytes xs ys) (xs ≡ ys)
-decides-same [] [] = (λ _. refl, λ _. refl)
-decides-same [] (y ∷ ys) = (λ e. absurd (true≢false (sym e)), λ e. absurd (let z : ◌≡◌ {A = ℕ} 0 1 = cc in omega arith))
-decides-same (x ∷ xs) [] = (λ e. absurd (true≢false (sym e)), λ e. absurd (let z : ◌≡◌ {A = ℕ} 0 1 = cc in omega arith))
-decides-same (x ∷ xs) (y ∷ ys) =
-    Decides-like (eqb x y && same_bytes xs ys) (λ p. ap₂ ◌∷◌ p.0 p.1) (λ e. (cc, cc))
-    (Decides-and (eqb x y) (same_bytes xs ys) (Decides-eqb x y) (decides-same xs ys))
-
 decides-code : (bytes : List ℕ) → Decides (is_code bytes) (IsCode bytes)
 decides-code bytes =
     Decides-and (leb (month_of bytes) last_month) (same_bytes bytes (code_bytes (month_of bytes)))
-    (decides-leb (month_of bytes) last_month) (decides-same bytes (code_bytes (month_of bytes)))
-
-decides-each : {X : Type 0} (p : X → Bool) (P : X → Type 0) → ((x : X) → Decides (p x) (P x)) → (xs : List X) → Decides (is_each p xs) (AllByRecursion P xs)
-decides-each p P each xs = Decides-by_and p P (is_each p) each refl (λ _ _. refl) xs
+    (decides-leb (month_of bytes) last_month) (compares_Decides same_bytes (search rules) bytes (code_bytes (month_of bytes)))
 
 -- each of the numbers below n, by the list of them
 decides-lines : (p : ℕ → Bool) (P : ℕ → Type 0) → ((k : ℕ) → Decides (p k) (P k)) → (n : ℕ) → Decides (is_each p (range_with_len 0 n)) ((k : ℕ) → k < n → P k)
 decides-lines p P each n =
     let l = length-range_with_len 0 n in
     Decides-like (is_each p (range_with_len 0 n))
-    (λ all k h. let g : get_or (range_with_len 0 n) k 0 ≡ k = omega (arith, get_or-range_with_len 0 n k 0 h) in
-    let i : k < length (range_with_len 0 n) = omega arith in
-    rw g at (All-get_or P (range_with_len 0 n) k 0 i all))
-    (λ all. All-from_get_or P (range_with_len 0 n) 0 (λ k h. let i : k < n = omega arith in
-    let g : get_or (range_with_len 0 n) k 0 ≡ k = omega (arith, get_or-range_with_len 0 n k 0 i) in
-    rw g (all k i)))
-    (decides-each p P each (range_with_len 0 n))
+    (λ all k h. rw (get_or-range_with_len 0 n k 0 h, zero-add) at (all k 0 (rw l h)))
+    (λ all k d h. let i : k < n = omega arith in rw (get_or-range_with_len 0 n k d i, zero-add) (all k i))
+    (Decides-by_and p P (is_each p) each refl (λ _ _. refl) (range_with_len 0 n))
 
 -- the bytes are a sheet of the day
 abbrev SheetOf : ℕ → List ℕ → Type 0
@@ -84,7 +66,8 @@ refused_none day bytes (Code line) r s = r.4 (s.0.1 line r.3)
 decides-listable : (trades : List Trade) → Decides (leb (length trades) most_trades && is_each (λ t. leb t.month last_month) trades) (Listable trades)
 decides-listable trades =
     Decides-and (leb (length trades) most_trades) (is_each (λ t. leb t.month last_month) trades) (decides-leb (length trades) most_trades)
-    (decides-each (λ t. leb t.month last_month) (λ t. t.month ≤ last_month) (λ t. decides-leb t.month last_month) trades)
+    (recursion.Decides-by_and (λ t. leb t.month last_month) (λ t. t.month ≤ last_month) (is_each (λ t. leb t.month last_month))
+    (λ t. decides-leb t.month last_month) refl (λ _ _. refl) trades)
 
 -- too many trades, or a month without a code: they make no sheet
 unlisted : (n : ℕ) (e : Bool) → (ltb most_trades n || not e) ≡ not (leb n most_trades && e)
@@ -95,7 +78,7 @@ written_row : (room : ℕ) (trades : List Trade) (f : WriteFault) → Unwritten 
 written_row room trades faults.Short u = rw (lt-ltb room (4 + 16 * length trades) u)
 written_row room trades faults.BadSheet u =
     let e = is_each (λ t. leb t.month last_month) trades in
-    rw (le-ltb room (4 + 16 * length trades) u.0, unlisted (length trades) e, not_made (leb (length trades) most_trades && e) (decides-listable trades) u.1)
+    rw (le-ltb room (4 + 16 * length trades) u.0, unlisted (length trades) e, false_from_ne_true (leb (length trades) most_trades && e) (λ k. u.1 ((decides-listable trades).0 k)))
 
 -- a number has a place in a list exactly if it is among it
 place-among : (n : ℕ) (xs : List ℕ) → ltb (place_in xs n) (length xs) ≡ is_among eqb n xs
@@ -116,7 +99,7 @@ sheet-rows = record {
   unlisted = λ w h ticket t current none.
       rw (current, unlisted-line (is_account h t.buyer) (is_account h t.seller) (is_listed h (place_in (months_of h) t.month)) (place-among t.month (months_of h) ∙ none));
   read = λ day bytes s d. rw ((decides-sheet day bytes).1 (s, d));
-  unread = λ day bytes f r. rw (not_made (is_sheet_of day bytes) (decides-sheet day bytes) (refused_none day bytes f r));
+  unread = λ day bytes f r. rw (false_from_ne_true (is_sheet_of day bytes) (λ k. refused_none day bytes f r ((decides-sheet day bytes).0 k)));
   wrote = λ room trades fits l.
       let e = is_each (λ t. leb t.month last_month) trades in
       rw (le-ltb room (4 + 16 * length trades) fits, unlisted (length trades) e, (decides-listable trades).1 l);

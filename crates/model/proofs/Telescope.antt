@@ -1,5 +1,6 @@
 -- The value of trades against the adjustments of their sessions: session after session, all but the rounding cancels.
-use Rattle.std.proofs.Common.{◌≡◌, ℕ, ◌+◌, ◌*◌, ◌^◌, ◌<◌, ◌≤◌, cond, List, [], ◌∷◌, length, ℤ, pos, ◌+ℤ◌, ◌-ℤ◌, ◌*ℤ◌, nat_abs, sum_by, Option, sym, refl, ap, ◌∙◌, subst, mul_assoc, mul_comm, mul-le-mul_left, arith}
+use Rattle.std.proofs.Common.{◌≡◌, ℕ, ◌+◌, ◌*◌, ◌^◌, ◌<◌, ◌≤◌, List, [], ◌∷◌, length, ℤ, pos, ◌+ℤ◌, ◌-ℤ◌, ◌*ℤ◌, nat_abs, sum_by, Option, sym, refl, ap, ◌∙◌, mul_assoc, mul_comm, mul-le-mul_left, arith}
+use mathlib.Core.Path.{fun_ext}
 use lib.IntN.{+ℤ_idr, zero-*ℤ}
 use borrow.Author.Differences.{ints}
 use Rattle.std.specs.List.{AllByRecursion}
@@ -22,6 +23,7 @@ use Rattle.model.specs.World.{World}
 use Rattle.model.specs.Sessions.{Session, up_to, oldest_day}
 use Rattle.model.specs.Positions.{contracts_in, corrected_to}
 use Rattle.model.specs.Value.{scale_of, adjustments_over, value_over, held_on, held_over, NearFrom}
+use Rattle.model.proofs.Cells.{gain-none}
 use Rattle.model.proofs.Falling.{Falling}
 use Rattle.model.proofs.Scales.{sums_same, sums-times, days-within, growth, unit, unit-split, scale-on, scale-here, days-drift}
 
@@ -34,30 +36,20 @@ module _ (a m : ℕ) where
   more : (c w p k x y : ℤ) → c *ℤ (w -ℤ p *ℤ k) +ℤ (x *ℤ w -ℤ y *ℤ k) ≡ (c +ℤ x) *ℤ w -ℤ (c *ℤ p +ℤ y) *ℤ k
   more c w p k x y = simp expands (omega (arith, sums))
 
-  none : (w k : ℤ) → pos 0 ≡ pos 0 *ℤ w -ℤ pos 0 *ℤ k
-  none w k = omega (arith, ints)
-
   -- each trade from its price times k to w
   trades-split : (w k : ℤ) (ts : List Trade)
       → total (λ t. contracts_of a m t *ℤ (w -ℤ pos t.price *ℤ k)) ts ≡ position_change a m ts *ℤ w -ℤ cost_of ts *ℤ k
-  trades-split w k [] = none w k
+  trades-split w k [] = omega (arith, ints)
   trades-split w k (t ∷ ts) =
-      ap (λ z. contracts_of a m t *ℤ (w -ℤ pos t.price *ℤ k) +ℤ z) (trades-split w k ts)
-      ∙ more (contracts_of a m t) w (pos t.price) k (position_change a m ts) (cost_of ts)
+      rw (trades-split w k ts) (more (contracts_of a m t) w (pos t.price) k (position_change a m ts) (cost_of ts))
 
   by_one : (p w : ℤ) → w -ℤ p ≡ w -ℤ p *ℤ pos 1
   by_one p w = omega (arith, ints)
 
   on-trades : (p : ℕ) (ts : List Trade) → on_trades a m p ts ≡ position_change a m ts *ℤ pos p -ℤ cost_of ts *ℤ pos 1
   unfolding on_trades gain_of
-  on-trades p ts = each ts ∙ trades-split (pos p) (pos 1) ts
-    where
-      each : (ts : List Trade)
-          → total (λ t. contracts_of a m t *ℤ (pos p -ℤ pos t.price)) ts ≡ total (λ t. contracts_of a m t *ℤ (pos p -ℤ pos t.price *ℤ pos 1)) ts
-      each [] = refl
-      each (t ∷ ts) =
-          ap (λ z. contracts_of a m t *ℤ z +ℤ total (λ t. contracts_of a m t *ℤ (pos p -ℤ pos t.price)) ts) (by_one (pos t.price) (pos p))
-          ∙ ap (λ z. contracts_of a m t *ℤ (pos p -ℤ pos t.price *ℤ pos 1) +ℤ z) (each ts)
+  on-trades p ts =
+      ap (λ f. total (λ t. contracts_of a m t *ℤ f t) ts) (fun_ext (λ t. by_one (pos t.price) (pos p))) ∙ trades-split (pos p) (pos 1) ts
 
   -- ---- many sessions
   -- the cost of the trades, carried
@@ -67,16 +59,12 @@ module _ (a m : ℕ) where
   split-more : (q w c k x y : ℤ) → (q *ℤ w -ℤ c *ℤ k) +ℤ (x *ℤ w -ℤ y) ≡ (q +ℤ x) *ℤ w -ℤ (c *ℤ k +ℤ y)
   split-more q w c k x y = simp expands (omega (arith, sums))
 
-  none_more : (w : ℤ) → pos 0 ≡ pos 0 *ℤ w -ℤ pos 0
-  none_more w = omega (arith, ints)
-
   pub value-split : (scale : ℕ → ℕ) (end : ℕ) (ss : List Session)
       → value_over scale end a m ss ≡ contracts_in a m ss *ℤ pos end -ℤ cost_over scale ss
-  value-split scale end [] = none_more (pos end)
+  value-split scale end [] = omega (arith, ints)
   value-split scale end (s ∷ ss) =
-      ap (λ z. z +ℤ value_over scale end a m ss) (trades-split (pos end) (pos (scale s.day)) s.trades)
-      ∙ ap (λ z. (position_change a m s.trades *ℤ pos end -ℤ cost_of s.trades *ℤ pos (scale s.day)) +ℤ z) (value-split scale end ss)
-      ∙ split-more (position_change a m s.trades) (pos end) (cost_of s.trades) (pos (scale s.day)) (contracts_in a m ss) (cost_over scale ss)
+      rw (trades-split (pos end) (pos (scale s.day)) s.trades, value-split scale end ss)
+      (split-more (position_change a m s.trades) (pos end) (cost_of s.trades) (pos (scale s.day)) (contracts_in a m ss) (cost_over scale ss))
 
 -- a sum over sessions, carried further
 regroup : (f b g x : ℤ) → f *ℤ (b *ℤ g) +ℤ x *ℤ g ≡ (f *ℤ b +ℤ x) *ℤ g
@@ -86,18 +74,15 @@ total-on : (f : Session → ℤ) (scale further : ℕ → ℕ) (g : ℕ) (ss : L
     → total (λ s. f s *ℤ pos (further s.day)) ss ≡ total (λ s. f s *ℤ pos (scale s.day)) ss *ℤ pos g
 total-on f scale further g [] h = sym (zero-*ℤ (pos g))
 total-on f scale further g (s ∷ ss) h =
-    ap (λ n. f s *ℤ pos n +ℤ total (λ s. f s *ℤ pos (further s.day)) ss) h.0
-    ∙ ap (λ z. f s *ℤ pos (scale s.day * g) +ℤ z) (total-on f scale further g ss h.1)
-    ∙ regroup (f s) (pos (scale s.day)) (pos g) (total (λ s. f s *ℤ pos (scale s.day)) ss)
+    rw (h.0, total-on f scale further g ss h.1) (regroup (f s) (pos (scale s.day)) (pos g) (total (λ s. f s *ℤ pos (scale s.day)) ss))
 
 -- ---- sessions up to a day
 pub all-kept : (d : ℕ) (ss : List Session) → AllByRecursion (λ s. s.day ≤ d) ss → up_to d ss ≡ ss
 all-kept d [] h = refl
-all-kept d (s ∷ ss) h =
-    ap (λ b. cond b (s ∷ up_to d ss) (up_to d ss)) (le-leb s.day d h.0) ∙ ap (λ xs. s ∷ xs) (all-kept d ss h.1)
+all-kept d (s ∷ ss) h = rw (le-leb s.day d h.0, all-kept d ss h.1)
 
 later-left : (d : ℕ) (s : Session) (ss : List Session) → d < s.day → up_to d (s ∷ ss) ≡ up_to d ss
-later-left d s ss h = ap (λ b. cond b (s ∷ up_to d ss) (up_to d ss)) (lt-leb s.day d h)
+later-left d s ss h = rw (lt-leb s.day d h)
 
 pub oldest-first : (s : Session) (ss : List Session) → Falling (s ∷ ss) → oldest_day s.day ss ≤ s.day
 oldest-first s [] f = omega arith
@@ -152,10 +137,6 @@ module _ (w : World) (rates : ℕ → Option ℕ) (a m : ℕ) where
         2 * nat_abs (adjustments_over (scale s.day) a m (s ∷ ss) -ℤ value_over (scale s.day) (s.prices m * scale s.day s.day) a m (s ∷ ss))
         ≤ held_over (scale s.day) a m (s ∷ ss) (reserve_days w.kinds first s.day)
 
-    carried_none : (p : ℕ) → gain_of (pos 0) p 0 ≡ pos 0
-    unfolding gain_of
-    carried_none p = zero-*ℤ (pos p -ℤ pos 0)
-
     start : (s : Session) → Adjusted s [] → Close s []
     start s h =
         let k = scale s.day s.day in
@@ -163,13 +144,9 @@ module _ (w : World) (rates : ℕ → Option ℕ) (a m : ℕ) where
         let p = s.prices m in
         let c = cost_of a m s.trades in
         let cell : s.amounts.adjustments a m ≡ t *ℤ pos p -ℤ c *ℤ pos 1 +ℤ pos 0 =
-        h ∙ ap (λ z. z +ℤ gain_of (pos 0) p 0) (on-trades a m p s.trades) ∙ ap (λ z. t *ℤ pos p -ℤ c *ℤ pos 1 +ℤ z) (carried_none p) in
+        rw (on-trades a m p s.trades, gain-none p 0) at h in
         let v = value-split a m (scale s.day) (p * k) (s ∷ []) in
-        let e : adjustments_over (scale s.day) a m (s ∷ []) -ℤ value_over (scale s.day) (p * k) a m (s ∷ []) ≡ pos 0 =
-        ap (λ z. (z *ℤ pos k +ℤ pos 0) -ℤ value_over (scale s.day) (p * k) a m (s ∷ [])) cell
-        ∙ ap (λ z. ((t *ℤ pos p -ℤ c *ℤ pos 1 +ℤ pos 0) *ℤ pos k +ℤ pos 0) -ℤ z) v
-        ∙ start-eq t (pos p) c (pos 0) (pos k) ∙ zero-*ℤ (pos k) in
-        rw e (omega arith)
+        rw (cell, v, start-eq t (pos p) c (pos 0) (pos k) ∙ zero-*ℤ (pos k)) (omega arith)
 
     on-carried : (q : ℤ) (p c : ℕ) → gain_of q p c ≡ q *ℤ (pos p -ℤ pos c)
     unfolding gain_of
@@ -179,18 +156,15 @@ module _ (w : World) (rates : ℕ → Option ℕ) (a m : ℕ) where
     held-before : (r s : Session) (ss : List Session) (d : ℕ) → d < s.day → s.day < r.day
         → held_on a m (r ∷ s ∷ ss) d * scale r.day (d + 1) ≡ held_on a m (s ∷ ss) d * scale s.day (d + 1) * growth w.kinds rates s.day r.day
     held-before r s ss d h l =
-        let k = scale-on w.kinds rates first s.day r.day (d + 1) (omega arith) (omega arith) in
-        ap (λ xs. nat_abs (contracts_in a m xs) * scale r.day (d + 1)) (later-left d r (s ∷ ss) (omega arith))
-        ∙ ap (λ n. held_on a m (s ∷ ss) d * n) k
-        ∙ sym (mul_assoc (held_on a m (s ∷ ss) d) (scale s.day (d + 1)) (growth w.kinds rates s.day r.day))
+        rw (later-left d r (s ∷ ss) (omega arith), scale-on w.kinds rates first s.day r.day (d + 1) (omega arith) (omega arith))
+        (sym (mul_assoc (held_on a m (s ∷ ss) d) (scale s.day (d + 1)) (growth w.kinds rates s.day r.day)))
 
     -- a day of the gap
     held_after : (r s : Session) (ss : List Session) (d : ℕ) → s.day ≤ d → d < r.day → Falling (s ∷ ss)
         → held_on a m (r ∷ s ∷ ss) d * scale r.day (d + 1) ≡ scale r.day (d + 1) * nat_abs (contracts_in a m (s ∷ ss))
     held_after r s ss d h l f =
         let all = All-weaker (λ x. x.day ≤ s.day) (λ x. x.day ≤ d) (λ x b. omega arith) (s ∷ ss) (up-to s ss f) in
-        ap (λ xs. nat_abs (contracts_in a m xs) * scale r.day (d + 1)) (later-left d r (s ∷ ss) l ∙ all-kept d (s ∷ ss) all)
-        ∙ mul_comm (nat_abs (contracts_in a m (s ∷ ss))) (scale r.day (d + 1))
+        rw (later-left d r (s ∷ ss) l, all-kept d (s ∷ ss) all) (mul_comm (nat_abs (contracts_in a m (s ∷ ss))) (scale r.day (d + 1)))
 
     -- what is held up to the new session: what was held, carried, and the position over the gap
     held_more : (r s : Session) (ss : List Session) → Falling (r ∷ s ∷ ss) → first ≤ s.day
@@ -213,9 +187,8 @@ module _ (w : World) (rates : ℕ → Option ℕ) (a m : ℕ) where
         (All-weaker (λ d. (s.day ≤ d) × (d < r.day)) (λ d. now d ≡ gap d * q) (λ d b. held_after r s ss d b.0 b.1 f.1) after (days-within w.kinds s.day r.day))
         ∙ sums-times gap q after
         ∙ ap (λ n. n * q) (days-drift w.kinds rates first s.day r.day l) in
-        ap (sum_by now) (days-split is_reserve w.kinds first s.day r.day l later) ∙ sum_by-append now before after
-        ∙ ap (λ n. n + sum_by now after) one ∙ ap (λ n. sum_by old before * g + n) two
-        ∙ shape (sum_by old before * g) (unit w.kinds rates first s.day) (drift (factors rates after)) q
+        rw (days-split is_reserve w.kinds first s.day r.day l later, sum_by-append now before after, one, two)
+        (shape (sum_by old before * g) (unit w.kinds rates first s.day) (drift (factors rates after)) q)
       where
         shape : (b u d q : ℕ) → b + u * d * q ≡ b + q * d * u
         shape b u d q = omega arith
@@ -236,28 +209,18 @@ module _ (w : World) (rates : ℕ → Option ℕ) (a m : ℕ) where
         let x = adjustments_over (scale s.day) a m (s ∷ ss) in
         let y = cost_over a m (scale s.day) (s ∷ ss) in
         let cell : r.amounts.adjustments a m ≡ t *ℤ pos p' -ℤ c *ℤ pos 1 +ℤ q *ℤ (pos p' -ℤ pos corrected) =
-        h ∙ ap (λ z. z +ℤ gain_of q p' corrected) (on-trades a m p' r.trades) ∙ ap (λ z. t *ℤ pos p' -ℤ c *ℤ pos 1 +ℤ z) (on-carried q p' corrected) in
+        rw (on-trades a m p' r.trades, on-carried q p' corrected) at h in
         let scaled : AllByRecursion (λ x. scale r.day x.day ≡ scale s.day x.day * g) (s ∷ ss) =
         All-weaker (λ x. x.day ≤ s.day) (λ x. scale r.day x.day ≡ scale s.day x.day * g)
         (λ x b. scale-on w.kinds rates first s.day r.day x.day b later) (s ∷ ss) (up-to s ss f.1) in
         let sum = total-on (λ x. x.amounts.adjustments a m) (scale s.day) (scale r.day) g (s ∷ ss) scaled in
         let cost = total-on (λ x. cost_of a m x.trades) (scale s.day) (scale r.day) g (s ∷ ss) scaled in
         let unit-r : k ≡ u * n = scale-here w.kinds rates first r.day ∙ unit-split w.kinds rates first s.day r.day l later in
-        let v : value_over (scale s.day) (p * scale s.day s.day) a m (s ∷ ss) ≡ q *ℤ pos (p * u) -ℤ y =
-        value-split a m (scale s.day) (p * scale s.day s.day) (s ∷ ss) ∙ ap (λ z. q *ℤ pos (p * z) -ℤ y) (scale-here w.kinds rates first s.day) in
-        let v' : value_over (scale r.day) (p' * k) a m (r ∷ s ∷ ss) ≡ (t +ℤ q) *ℤ pos (p' * k) -ℤ (c *ℤ pos k +ℤ y *ℤ pos g) =
-        value-split a m (scale r.day) (p' * k) (r ∷ s ∷ ss) ∙ ap (λ z. (t +ℤ q) *ℤ pos (p' * k) -ℤ (c *ℤ pos k +ℤ z)) cost in
-        let near' : 2 * nat_abs (x -ℤ (q *ℤ pos (p * u) -ℤ y)) ≤ held_over (scale s.day) a m (s ∷ ss) (reserve_days w.kinds first s.day) =
-        subst (λ z. 2 * nat_abs (x -ℤ z) ≤ held_over (scale s.day) a m (s ∷ ss) (reserve_days w.kinds first s.day)) v near in
+        let v = value-split a m (scale s.day) (p * scale s.day s.day) (s ∷ ss) ∙ ap (λ z. q *ℤ pos (p * z) -ℤ y) (scale-here w.kinds rates first s.day) in
         let all = one_more x y q t c (r.amounts.adjustments a m) p p' u corrected g n k (drift (factors rates (reserve_days w.kinds s.day r.day)))
-        (held_over (scale s.day) a m (s ∷ ss) (reserve_days w.kinds first s.day)) unit-r cell near'
-        (subst (λ i. 2 * nat_abs (pos (p * g) -ℤ pos (corrected * 100000000 ^ i)) ≤ drift (factors rates (reserve_days w.kinds s.day r.day)))
-        (length-map (reserve_days w.kinds s.day r.day) (factor_on rates)) (rounded p (factors rates (reserve_days w.kinds s.day r.day)))) in
-        let summed = subst (λ z. 2 * nat_abs ((r.amounts.adjustments a m *ℤ pos k +ℤ z) -ℤ ((t +ℤ q) *ℤ pos (p' * k) -ℤ (c *ℤ pos k +ℤ y *ℤ pos g)))
-        ≤ held_over (scale s.day) a m (s ∷ ss) (reserve_days w.kinds first s.day) * g + nat_abs q * drift (factors rates (reserve_days w.kinds s.day r.day)) * u) (sym sum) all in
-        let valued = subst (λ z. 2 * nat_abs (adjustments_over (scale r.day) a m (r ∷ s ∷ ss) -ℤ z)
-        ≤ held_over (scale s.day) a m (s ∷ ss) (reserve_days w.kinds first s.day) * g + nat_abs q * drift (factors rates (reserve_days w.kinds s.day r.day)) * u) (sym v') summed in
-        subst (λ z. 2 * nat_abs (adjustments_over (scale r.day) a m (r ∷ s ∷ ss) -ℤ value_over (scale r.day) (p' * k) a m (r ∷ s ∷ ss)) ≤ z) (sym (held_more r s ss f l)) valued
+        (held_over (scale s.day) a m (s ∷ ss) (reserve_days w.kinds first s.day)) unit-r cell (rw v at near)
+        (rw (length-map (reserve_days w.kinds s.day r.day) (factor_on rates)) at (rounded p (factors rates (reserve_days w.kinds s.day r.day)))) in
+        rw (value-split a m (scale r.day) (p' * k) (r ∷ s ∷ ss), cost, sum, held_more r s ss f l) all
 
     pub close : (s : Session) (ss : List Session) → Falling (s ∷ ss) → Ruled (s ∷ ss) → first ≡ oldest_day s.day ss → Close s ss
     close s [] f h e = start s h.0

@@ -1,5 +1,5 @@
 -- Lawful closes settle by the rules, session after session; so the second claim holds of every lawful history.
-use Rattle.std.proofs.Common.{◌≡◌, ℕ, ◌<◌, ◌≤◌, Bool, true, false, cond, ◌&&◌, leb, List, [], ◌∷◌, length, pos, ◌-ℤ◌, ◌*ℤ◌, nat_abs, None, Option, sym, refl, ap, ◌∙◌, arith}
+use Rattle.std.proofs.Common.{◌≡◌, ℕ, ◌<◌, ◌≤◌, Bool, true, false, cond, ◌&&◌, leb, List, [], ◌∷◌, length, None, Option, sym, refl, ap, ◌∙◌, arith}
 use borrow.Author.Differences.{ints}
 use Rattle.std.specs.List.{AllByRecursion}
 use Rattle.std.proofs.ByRecursion.{All-weaker}
@@ -8,12 +8,11 @@ use Rattle.std.proofs.lemmas.Bool.{ltb-true, leb-true}
 use Rattle.calendar.specs.Spans.{reserve_days}
 use Rattle.correction.specs.Gaps.{first_unrated}
 use Rattle.interest.specs.Correction.{corrected}
-use Rattle.settlement.specs.Amounts.{adjustment_of}
 use Rattle.model.specs.World.{World}
-use Rattle.model.specs.History.{History, Event, Amounts, Entered, Listed, Published, Arbitrated, Opened, Traded, Marked, Closed, Paid, listed, list_of}
+use Rattle.model.specs.History.{History, Event, Amounts, Closed, listed, list_of}
 use Rattle.model.specs.Observed.{months_of, is_listed, expiry_at, rate_on, session_day, trades_of, settlement_price}
 use Rattle.model.specs.Sessions.{Session, sessions_of, up_to, has_reached, gap_to, oldest_day}
-use Rattle.model.specs.Positions.{has_ended, contracts_in, corrected_to}
+use Rattle.model.specs.Positions.{has_ended, corrected_to}
 use Rattle.model.specs.Lawful.{Lawful}
 use Rattle.model.specs.Value.{NearFrom, AlwaysValued}
 use Rattle.model.proofs.Allowing.{closing}
@@ -48,8 +47,7 @@ module _ (w : World) (a m expiry : ℕ) where
   rightly-stays rates rates' k (s ∷ ss) h = (
     record {
       rated = rated-stay rates rates' (gap_to w s.day ss) k h.0.rated;
-      adjusted = λ b. h.0.adjusted b
-          ∙ ap (adjustment_of a m (s.prices m) s.trades (contracts_in a m ss)) (sym (corrected-stays rates rates' k s.day ss h.0.rated));
+      adjusted = λ b. rw (corrected-stays rates rates' k s.day ss h.0.rated) (h.0.adjusted b);
     },
     rightly-stays rates rates' k ss h.1,
   )
@@ -59,12 +57,9 @@ module _ (w : World) (a m expiry : ℕ) where
   ruled rates [] b h = tt
   ruled rates (s ∷ ss) b h = (h.0.adjusted b.0, ruled rates ss b.1 h.1)
 
-  no-sessions : (n : ℕ) → nat_abs (pos 20 *ℤ pos 0 -ℤ pos 20 *ℤ pos 0) ≤ n
-  no-sessions n = omega (arith, ints)
-
   -- the claim of the sessions up to the expiry
   near-upto : (rates : ℕ → Option ℕ) (d : ℕ) (ss : List Session) → Falling ss → AllRightly rates ss → NearFrom w rates (oldest_day d ss) a m (up_to expiry ss)
-  near-upto rates d [] f h = no-sessions _
+  near-upto rates d [] f h = omega (arith, ints)
   near-upto rates d (s ∷ ss) f h = by (leb s.day expiry) refl (near-upto rates s.day ss f.1 h.1)
     where
       by : (b : Bool) → leb s.day expiry ≡ b → NearFrom w rates (oldest_day s.day ss) a m (up_to expiry ss)
@@ -92,9 +87,7 @@ right-close w h c l a m expiry is =
     let before = rw (sym facts.session.day) at (open-later w h facts.day l.1 facts.session.is_open) in
     record {
       rated = facts.rated;
-      adjusted = λ b. cells w h c l a m
-          ∙ ap (λ t. adjustment_of a m (settlement_price w h m) (trades_of h) (cond t (pos 0) (contracts_in a m (sessions_of w h))) (corrected_to w (rate_on w h) (session_day h) (sessions_of w h) m))
-          (unexpired w h m expiry is before b);
+      adjusted = λ b. rw (cells w h c l a m, unexpired w h m expiry is before b);
     }
 
 -- the month's expiry was the same before an event, if the month was listed
@@ -103,33 +96,15 @@ before-event : (w : World) (h : History) (e : Event) (m expiry : ℕ) → (m < l
 before-event w h e m expiry is b =
     sym (months-stay w h e m b) ∙ is (let n = length-append (months_of h) (list_of (listed e)) in omega arith)
 
--- an event that closes nothing
-still : (w : World) (h : History) (e : Event) → Lawful w (e ∷ h) → (a m expiry : ℕ)
-    → AllRightly w a m expiry (rate_on w h) (sessions_of w h) → AllRightly w a m expiry (rate_on w (e ∷ h)) (sessions_of w h)
-still w h e l a m expiry = rightly-stays w a m expiry (rate_on w h) (rate_on w (e ∷ h)) (λ d r. rate-stays w h e d r l) (sessions_of w h)
-
 pub all_right : (w : World) (h : History) → Lawful w h → (a m expiry : ℕ) → (m < length (months_of h) → expiry_at w h m ≡ expiry)
     → AllRightly w a m expiry (rate_on w h) (sessions_of w h)
 all_right w [] l a m expiry is = tt
-all_right w (Entered x ∷ h) l a m expiry is =
-    still w h (Entered x) l a m expiry (all_right w h l.1 a m expiry (before-event w h (Entered x) m expiry is))
-all_right w (Listed n ∷ h) l a m expiry is =
-    still w h (Listed n) l a m expiry (all_right w h l.1 a m expiry (before-event w h (Listed n) m expiry is))
-all_right w (Published d r ∷ h) l a m expiry is =
-    still w h (Published d r) l a m expiry (all_right w h l.1 a m expiry (before-event w h (Published d r) m expiry is))
-all_right w (Arbitrated d r ∷ h) l a m expiry is =
-    still w h (Arbitrated d r) l a m expiry (all_right w h l.1 a m expiry (before-event w h (Arbitrated d r) m expiry is))
-all_right w (Opened d ∷ h) l a m expiry is =
-    still w h (Opened d) l a m expiry (all_right w h l.1 a m expiry (before-event w h (Opened d) m expiry is))
-all_right w (Traded t ∷ h) l a m expiry is =
-    still w h (Traded t) l a m expiry (all_right w h l.1 a m expiry (before-event w h (Traded t) m expiry is))
-all_right w (Marked i p ∷ h) l a m expiry is =
-    still w h (Marked i p) l a m expiry (all_right w h l.1 a m expiry (before-event w h (Marked i p) m expiry is))
 all_right w (Closed c ∷ h) l a m expiry is =
     let known = before-event w h (Closed c) m expiry is in
     (right-close w h c l a m expiry known, all_right w h l.1 a m expiry known)
-all_right w (Paid ∷ h) l a m expiry is =
-    still w h Paid l a m expiry (all_right w h l.1 a m expiry (before-event w h Paid m expiry is))
+all_right w (e ∷ h) l a m expiry is =
+    rightly-stays w a m expiry (rate_on w h) (rate_on w (e ∷ h)) (λ d r. rate-stays w h e d r l) (sessions_of w h)
+    (all_right w h l.1 a m expiry (before-event w h e m expiry is))
 
 near-value : (w : World) (h : History) → Lawful w h → (a m : ℕ)
     → NearFrom w (rate_on w h) (oldest_day 0 (sessions_of w h)) a m (up_to (expiry_at w h m) (sessions_of w h))

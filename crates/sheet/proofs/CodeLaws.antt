@@ -1,10 +1,10 @@
 -- A month's code names that month, and no other. Assumes nothing.
-use Rattle.std.proofs.Common.{◌≡◌, ℕ, zero, suc, ◌+◌, ◌*◌, ◌/◌, ◌%◌, ◌<◌, ◌≤◌, Bool, true, ◌&&◌, eqb, List, [], ◌∷◌, ◌++◌, length, get_or, decimal, sym, refl, ap, ◌∙◌, arith}
+use Rattle.std.proofs.Common.{◌≡◌, ℕ, ◌+◌, ◌*◌, ◌/◌, ◌%◌, ◌<◌, ◌≤◌, true, eqb, List, [], ◌∷◌, ◌++◌, length, get_or, decimal, sym, refl, ap, ◌∙◌, arith}
 use lib.Utf8.{encode}
 use Rattle.std.proofs.lemmas.Str.Ascii.{encode_ascii}
 use Rattle.std.proofs.lemmas.Fmt.{decimal_digit}
 use Rattle.std.proofs.lemmas.List.FromFn.{fill_by_all}
-use Rattle.std.proofs.lemmas.Bool.Decides.{Decides-eqb, Decides-below_and}
+use Rattle.std.proofs.lemmas.Bool.{eqb-true, agree_below_at}
 use Rattle.sheet.specs.Codes.{letters, letter_of, last_month, code_bytes, Names, NoCode, place_in, month_of, IsCode}
 
 -- a byte that is no digit, where the year's digits stand
@@ -24,14 +24,8 @@ code-made l t o hl ht ho =
     cc
 
 -- the place of a letter is its month
-abbrev placed : ℕ → Bool
-placed zero = true
-placed (suc n) = eqb (place_in letters (letter_of n)) n && placed n
-
 pub place-letter : (l : ℕ) → l < 12 → place_in letters (letter_of l) ≡ l
-place-letter l h =
-    (Decides-below_and (λ k. eqb (place_in letters (letter_of k)) k) (λ k. place_in letters (letter_of k) ≡ k) placed
-    (λ k. Decides-eqb (place_in letters (letter_of k)) k) refl (λ _. refl) 12).0 refl l h
+place-letter l h = eqb-true (place_in letters (letter_of l)) l (agree_below_at (λ k. eqb (place_in letters (letter_of k)) k) (λ _. true) 12 l refl h)
 
 pub month-back : (m : ℕ) → m ≤ last_month → month_of (code_bytes m) ≡ m
 month-back m h =
