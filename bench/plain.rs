@@ -713,15 +713,6 @@ fn factors(count: u32) -> u64 {
 }
 
 const SESSION: u16 = 9_860;
-const ROOM: usize = 4 + 16 * 256;
-
-const NO_TRADE: Trade = Trade {
-    buyer: 0,
-    seller: 0,
-    month: 0,
-    rate: 0,
-    quantity: 0,
-};
 
 struct Total {
     lines: u64,
@@ -753,30 +744,15 @@ impl Total {
     }
 }
 
-fn fill(trades: &mut [Trade], numbers: &mut Numbers) {
-    for trade in trades.iter_mut() {
-        *trade = numbers.trade();
-    }
-}
-
-fn pass(total: &mut Total, calendar: &RuleCalendar, trades: &[Trade], bytes: &mut [u8; ROOM]) {
-    if let Ok(end) = write(SESSION, trades, bytes) {
-        if let Ok(view) = read(&bytes[0..end]) {
+fn next_sheet(total: &mut Total, calendar: &RuleCalendar, numbers: &mut Numbers) {
+    let lines = 1 + numbers.below(256);
+    let trades: Vec<Trade> = (0..lines).map(|_| numbers.trade()).collect();
+    let mut bytes = vec![0; 4 + 16 * trades.len()];
+    if write(SESSION, &trades, &mut bytes).is_ok() {
+        if let Ok(view) = read(&bytes) {
             total.add_sheet(calendar, &view);
         }
     }
-}
-
-fn next_sheet(
-    total: &mut Total,
-    calendar: &RuleCalendar,
-    numbers: &mut Numbers,
-    trades: &mut [Trade; 256],
-    bytes: &mut [u8; ROOM],
-) {
-    let lines = 1 + numbers.below(256) as usize;
-    fill(&mut trades[0..lines], numbers);
-    pass(total, calendar, &trades[0..lines], bytes);
 }
 
 fn sheets(count: u32) -> Total {
@@ -790,10 +766,8 @@ fn sheets(count: u32) -> Total {
         priced: 0,
         sum: 0,
     };
-    let mut trades = [NO_TRADE; 256];
-    let mut bytes = [0; ROOM];
     for _ in 0..count {
-        next_sheet(&mut total, &calendar, &mut numbers, &mut trades, &mut bytes);
+        next_sheet(&mut total, &calendar, &mut numbers);
     }
     total
 }

@@ -39,6 +39,7 @@ impl<'a> Frame<'a> {
     }
 
     // The sides of a line.
+    // Kept: that a line is below the count is asked by the steps of one loop and of one question, and told by nothing else.
     pub(super) fn sides(&self, line: usize) -> [u8; 2]
         requires { line < self.now.count }
         ensures { result ≡ sides_at self.now.bytes.now line }
