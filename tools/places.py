@@ -54,7 +54,7 @@ PATTERNS = {
     ],
     "6": [
         ("an array", r"\[[A-Za-z_0-9]+; [A-Z0-9a-z_ +*]+\]"),
-        ("a count beside bytes", r"^\s+(count|lines|length): u(8|16|32|size),"),
+        ("a count in a struct", r"^\s+(pub(\(\w+\))? )?(count|lines|length): u(8|16|32|64|size),"),
         ("a list of entries", r"\w+: Vec<"),
     ],
     "7": [
