@@ -104,8 +104,8 @@ fn carry<C: Calendar, S: RateSource>(calendar: &C, source: &S, gap: Gap) -> Resu
     Ok(carried)
 }
 
-// Kept: two parameters, since counting days takes the calendar alone, and a day's rate the source alone.
 // The price of a gap's session, corrected over the reserve days of the gap.
+// Kept: two parameters: counting days takes the calendar alone, a rate of a day the source alone; a pair would be taken apart at once.
 pub fn correct<C: Calendar, S: RateSource>(
     calendar: &C,
     source: &S,

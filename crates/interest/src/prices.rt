@@ -36,7 +36,7 @@ impl fmt::Display for Unpriceable {
 impl std::error::Error for Unpriceable {}
 
 // A factor of nine decimals, rounded to eight.
-// Kept: one rounding over a const parameter was tried; this and to_centavos stand again above it, for their bounds.
+// Kept: one rounding over a const parameter was tried; this and to_centavos are still needed above it, for their bounds.
 fn to_eight_decimals(factor: u64) -> u32
     requires { factor ≤ 2000000000 }
     ensures { result ≡ (factor + 5) / 10 }

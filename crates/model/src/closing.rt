@@ -45,7 +45,7 @@ impl From<Uncorrected> for Unsettled {
 }
 
 // The latest settlement price, corrected to the session; none is carried into the first.
-// Kept: calendar and source are two parameters, as in `correct`.
+// Kept: two parameters: counting days takes the calendar alone, a rate of a day the source alone; a pair would be taken apart at once.
 fn corrected_price<C: Calendar, S: RateSource>(
     calendar: &C,
     source: &S,
@@ -79,7 +79,7 @@ fn carried_position(position: i32, trades: &[Trade], whose: AccountMonth) -> Opt
 }
 
 // The adjustment of an account in a month, on what the close of a session knows.
-// Kept: a function of its own below `settle`, where a wrong one is refused by this clause alone.
+// Kept: apart from `settle`, since a must-fail edit counts where a line of src/ is refused: here by this clause, there by a lemma.
 fn adjusted<C: Calendar, S: RateSource>(
     calendar: &C,
     source: &S,

@@ -70,7 +70,7 @@ pub struct Tally {
 pub fn add_up<P: Pick>(view: &SheetView<'_>, pick: &P) -> Tally
     ensures { Tallied (P.picked pick.now) (view_trades view.now) result }
 {
-    // Kept: one pass counts lines and contracts; two chains would go over the sheet twice.
+    // Kept: two chains would read each line twice, and a fold over the pair is this loop again.
     let mut lines = 0;
     let mut contracts: u64 = 0;
     for trade in view.trades() {

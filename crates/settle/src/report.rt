@@ -66,6 +66,7 @@ struct Report<'a> {
 
 impl Report<'_> {
     // The last column: the price, or why there is none.
+    // Kept: a column is padded to its width, so its words are a string first.
     fn price_words(&self, heap: Global, trade: Trade) -> Result<String, AllocError> {
         match price_trade(self.calendar, self.view.day(), trade) {
             Ok(priced) => {

@@ -8,7 +8,7 @@ use std::alloc::{AllocError, Global};
 use std::{fmt, fs};
 
 // The count that a sheet's first bytes say.
-// Kept: 0 for fewer bytes is never shown, since their length is told first.
+// Kept: an Option would be taken apart where the count is shown, and there fewer bytes have been told first.
 fn count_said(bytes: &[u8]) -> u16 {
     match bytes {
         [low, high, ..] => u16::from_le_bytes([*low, *high]),

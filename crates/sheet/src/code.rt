@@ -20,7 +20,7 @@ impl ContractCode {
     pub fn new(month: u32) -> Option<ContractCode>
         ensures { MatchOption result (last_month < month) (λ c. c.month ≡ month) }
     {
-        // Kept: within a closure for `then` the month is not known to have a code, and the proof doesn't close.
+        // Kept: within a closure for `then` the month is not known to have a code, and the proof does not close.
         if month <= LAST_MONTH {
             Some(ContractCode { month })
         } else {

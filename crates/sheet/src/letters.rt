@@ -1,5 +1,5 @@
 // The letters of the twelve delivery months.
-// Kept: the letters stand as cases in both directions, a form that the project needs.
+// Kept: the letters stand as cases both ways, the form that the project asks for (docs/DECISIONS.md).
 ghost use Rattle.std.specs.Prelude.{◌≡◌, ℕ, ◌<◌, ◌≤◌, MatchOption, ◌≢◌};
 ghost use Rattle.sheet.specs.Codes.{letter_of};
 

@@ -53,7 +53,7 @@ impl<'a> ListedTrades<'a> {
     }
 
     // Writes the sides of each trade, and behind them the terms of each.
-    // Kept: of what is written through chunks_exact_mut a proof knows the length alone.
+    // Kept: chunks_exact_mut was tried, and the proof did not close: of what it writes a proof knows the length alone.
     fn write_rows(&self, rows: &mut [u8])
         requires { length rows.old ≡ 16 * length self.now.trades.now }
         ensures { rows.new ≡ flat_map sides self.now.trades.now ++ flat_map terms self.now.trades.now }

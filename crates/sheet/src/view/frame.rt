@@ -8,7 +8,7 @@ use crate::numbers::array_of;
 use crate::trade::{MOST_TRADES, SheetFault};
 
 // Bytes whose length is that of a sheet, with the count and the day of their head.
-// Kept: the bytes stay whole, since the sheet's definitions speak of them whole.
+// Kept: the count stands beside the whole bytes, tied to them below; two slices would need it too, since the definitions speak of the whole.
 #[derive(Clone, Copy, Debug)]
 pub(super) struct Frame<'a> {
     bytes: &'a [u8],
@@ -39,7 +39,7 @@ impl<'a> Frame<'a> {
     }
 
     // The sides of a line.
-    // Kept: that a line is below the count is asked by the steps of one loop and of one question, and told by nothing else.
+    // Kept: a type for a line below the count would be made in one loop and one question, and taken apart at once.
     pub(super) fn sides(&self, line: usize) -> [u8; 2]
         requires { line < self.now.count }
         ensures { result ≡ sides_at self.now.bytes.now line }
