@@ -1,12 +1,20 @@
--- The accounts that trade with one another.
-use Rattle.std.specs.Prelude.{◌≡◌, ℕ, List, count_by, nat_eq}
-use Rattle.std.specs.List.{AllByRecursion}
-use Rattle.settlement.specs.declared.trades.Trade.{Trade}
+-- Accounts, and the indices that accounts and months can have.
+use Rattle.std.specs.Prelude.{ℕ, Bool, false, ◌&&◌, ◌||◌, List, [], ◌∷◌, ◌==◌}
+use Rattle.std.specs.List.{range_with_len}
+use Rattle.settlement.specs.declared.accounts.Account.{Account}
 
--- an account stands in a list, and only once
-abbrev pub Once : List ℕ → ℕ → Type 0
-Once accounts a = count_by (nat_eq a) accounts ≡ 1
+-- the same client, participant and clearing member
+abbrev pub same_account : Account → Account → Bool
+same_account x y = x.client == y.client && (x.participant == y.participant && x.member == y.member)
 
--- both sides of each trade stand once among the accounts
-abbrev pub Among : List ℕ → List Trade → Type 0
-Among accounts ts = AllByRecursion (λ t. Once accounts t.buyer × Once accounts t.seller) ts
+-- one of the list is the same as x
+abbrev pub is_among : {X : Type 0} → (X → X → Bool) → X → List X → Bool
+is_among same x [] = false
+is_among same x (y ∷ ys) = same x y || is_among same x ys
+
+-- a book holds at most 32 accounts and 16 months: their indices
+abbrev pub account_indices : List ℕ
+account_indices = range_with_len 0 32
+
+abbrev pub month_indices : List ℕ
+month_indices = range_with_len 0 16

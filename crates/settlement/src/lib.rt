@@ -1,15 +1,13 @@
-// What the close of a session pays an account in a month, from its trades and its position.
+// The model of a settlement book, and what is claimed of it.
 #![tactic(auto)]
 
-mod amounts;
-mod day;
-mod session;
-mod trades;
+mod accounts;
+mod claims;
+mod closing;
 
-pub use amounts::{MOST_CARRIED, adjustment};
-pub use day::day_trade;
-pub use session::position_change;
-pub use trades::{AccountMonth, MOST_QUANTITY, MOST_TRADES, Side, Trade, contracts_of};
+pub use accounts::Account;
+pub use claims::{claims_hold, examples_hold, laws_hold};
+pub use closing::{MonthClose, Settled, Unsettled, settle};
 
 #[cfg(test)]
 mod tests;

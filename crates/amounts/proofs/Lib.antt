@@ -1,0 +1,6 @@
+pub mod Bounds
+pub mod Gains
+pub mod Laws
+pub mod Signs
+pub mod Totals
+pub mod Units

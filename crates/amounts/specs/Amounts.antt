@@ -1,0 +1,26 @@
+-- What a close pays an account in a month, in centavos.
+use Rattle.std.specs.Prelude.{ℕ, ◌≤◌, List, ℤ, pos, ◌+ℤ◌, ◌-ℤ◌, ◌*ℤ◌, unsigned_abs}
+use Rattle.amounts.specs.declared.trades.Trade.{Trade}
+use Rattle.amounts.specs.Sums.{total}
+use Rattle.amounts.specs.Trades.{contracts_of, Limited}
+
+-- contracts that go from one price to another
+unfoldable pub gain_of : ℤ → ℕ → ℕ → ℤ
+gain_of contracts price before = contracts *ℤ (pos price -ℤ pos before)
+
+-- the trades of the session, each from its own price to the settlement price
+unfoldable pub on_trades : ℕ → ℕ → ℕ → List Trade → ℤ
+on_trades account month price ts = total (λ t. gain_of (contracts_of account month t) price t.price) ts
+
+-- the position of the day before, from its corrected price to the settlement price
+abbrev pub on_carried : ℤ → ℕ → ℕ → ℤ
+on_carried position price corrected = gain_of position price corrected
+
+-- the adjustment of the account in the month
+abbrev pub adjustment_of : ℕ → ℕ → ℕ → List Trade → ℤ → ℕ → ℤ
+adjustment_of account month price ts position corrected = on_trades account month price ts +ℤ on_carried position price corrected
+
+-- limited trades, and a position of at most 500,000 contracts, bought or sold
+pub record InRange (ts : List Trade) (position : ℤ) : Type 0 where
+  pub trades : Limited ts
+  pub held : unsigned_abs position ≤ 500000

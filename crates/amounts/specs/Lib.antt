@@ -1,0 +1,5 @@
+pub mod Sums
+pub mod Trades
+pub mod Accounts
+pub mod Amounts
+pub mod DayTrades

@@ -1,0 +1,34 @@
+-- The busy history is lawful, event by event, and comes to what is said of it.
+use Rattle.std.proofs.Common.{◌≡◌, drop, refl, lit<, lit≤}
+use Rattle.dates.specs.Months.{month_of}
+use Rattle.dates.proofs.MonthLaws.{month-is}
+use Rattle.settlement.specs.Lawful.{Lawful}
+use Rattle.settlement.specs.Busy.{busy_world, busy_history, BusyHolds}
+use Rattle.settlement.proofs.Exampled.{figures, december, paper, closes}
+
+-- 31 December 2026 is in December 2026
+december-31 : month_of 9861 ≡ 323
+unfolding figures
+december-31 = month-is 9861 323 (lit≤ tt) (lit< tt) (lit≤ tt)
+
+-- up to the first close, the newest event first
+busy-first : Lawful busy_world (drop 14 busy_history)
+unfolding figures
+busy-first =
+    (closes busy_world (drop 15 busy_history) 9860 refl, (refl, ((paper 9860, refl), (((paper 9860, rw december), refl), (((paper 9860, rw december), refl), ((refl, refl), (refl, (refl, (refl, tt)))))))))
+
+-- up to the second
+busy-second : Lawful busy_world (drop 4 busy_history)
+unfolding figures
+busy-second =
+    (closes busy_world (drop 5 busy_history) 9861 refl, (refl, ((paper 9860, refl), ((paper 9861, refl), ((paper 9861, refl), (((paper 9861, rw december-31), refl), (((paper 9861, rw december-31), refl), (refl, ((refl, refl), (refl, busy-first))))))))))
+
+-- all of it
+busy-lawful : Lawful busy_world busy_history
+unfolding figures
+busy-lawful =
+    (closes busy_world (drop 1 busy_history) 9865 refl, ((paper 9861, refl), ((paper 9865, refl), ((refl, refl), busy-second))))
+
+pub busy-holds : BusyHolds
+unfolding figures
+busy-holds = record { lawful = busy-lawful; adjustments = refl; day_trades = refl; positions = refl; paid = refl; due = refl }

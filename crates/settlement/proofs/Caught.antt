@@ -1,0 +1,63 @@
+-- The history of the wrong books is lawful with the right amounts, and the second claim fails of it with each pair of wrong ones.
+use Rattle.std.proofs.Common.{◌≡◌, ℕ, zero, suc, drop, ℤ, pos, ◌+ℤ◌, refl, arith, lit<, lit≤}
+use borrow.Author.Differences.{ints}
+use Rattle.std.specs.List.{AllByRecursion}
+use Rattle.std.proofs.ByRecursion.{All-weaker}
+use Rattle.dates.specs.Months.{month_of}
+use Rattle.dates.proofs.MonthLaws.{month-is}
+use Rattle.amounts.specs.Sums.{total}
+use Rattle.settlement.specs.Accounts.{account_indices}
+use Rattle.settlement.specs.Balance.{Balanced}
+use Rattle.settlement.specs.Positions.{written_for}
+use Rattle.settlement.specs.Lawful.{Lawful}
+use Rattle.settlement.specs.Examples.{both}
+use Rattle.settlement.specs.Value.{Valued}
+use Rattle.settlement.specs.Wrong.{wrong_world, wrong_history, right_history, wrong_amounts, book_of, TooFar, WrongCaught}
+use Rattle.settlement.proofs.Exampled.{figures, december, paper, closes}
+
+-- 1 January 2027 is in January 2027
+january : month_of 9862 ≡ 324
+unfolding figures
+january = month-is 9862 324 (lit≤ tt) (lit< tt) (lit≤ tt)
+
+-- up to the first close, the newest event first
+right-first : Lawful wrong_world (drop 7 right_history)
+unfolding figures
+right-first =
+    (closes wrong_world (drop 8 right_history) 9860 refl, ((paper 9860, refl), (((paper 9860, rw december), refl), (refl, ((refl, refl), (refl, (refl, (refl, tt))))))))
+
+-- all of it
+right-lawful : Lawful wrong_world right_history
+unfolding figures
+right-lawful =
+    (closes wrong_world (drop 1 right_history) 9862 refl, ((paper 9862, refl), (((paper 9862, rw january), refl), (refl, (refl, ((paper 9860, refl), ((refl, refl), right-first)))))))
+
+-- a close that gives account 0 the opposite of account 1 adds to zero
+cancels : (x : ℤ) (m : ℕ) → total (λ a. (both x).adjustments a m) account_indices ≡ pos 0
+cancels x zero = omega (arith, ints)
+cancels x (suc m) = refl
+
+regrouped : (p q : ℤ) → (p +ℤ pos 0) +ℤ (q +ℤ pos 0) ≡ p +ℤ (q +ℤ pos 0)
+regrouped p q = omega (arith, ints)
+
+all-balanced : (x y : ℤ) → Balanced (wrong_history x y)
+all-balanced x y = record {
+  closes = (cancels x, (cancels y, tt));
+  accounts = λ a. regrouped (written_for a (both x)) (written_for a (both y));
+}
+
+all-caught : AllByRecursion TooFar wrong_amounts
+unfolding figures
+all-caught = (lit< tt, (lit< tt, (lit< tt, (lit< tt, (lit< tt, tt)))))
+
+-- the two sides are those of the claim
+breaks : (p : ℤ × ℤ) → TooFar p → Valued wrong_world (book_of p) → ⊥
+breaks p l v = omega (arith, v.near 1 0 (lit< tt))
+
+pub wrong-caught : WrongCaught
+wrong-caught = record {
+  right = right-lawful;
+  balanced = all-balanced;
+  caught = all-caught;
+  broken = All-weaker TooFar (λ p. Valued wrong_world (book_of p) → ⊥) breaks wrong_amounts all-caught;
+}

@@ -1,0 +1,32 @@
+use Rattle.settlement.proofs.claims.laws_hold.Goals as goal
+use Rattle.settlement.proofs.Apart.{months-apart}
+use Rattle.settlement.proofs.Balancing.{positions-balance}
+use Rattle.settlement.proofs.Dealt.{trades-few}
+use Rattle.settlement.proofs.Dues.{dues-move, pays-latest, unpaid-stays}
+use Rattle.settlement.proofs.Expiring.{expiry-met}
+use Rattle.settlement.proofs.Gaps.{gaps-rated}
+use Rattle.settlement.proofs.Limits.{positions-limited}
+use Rattle.settlement.proofs.Order.{sessions-rise}
+use Rattle.settlement.proofs.Rated.{rates-stay}
+use Rattle.settlement.proofs.SheetRows.{sheet-rows}
+use Rattle.settlement.proofs.Unpaid.{one-unpaid, closes-paid}
+
+pub returns-clause-laws : goal.returns-clause-laws
+returns-clause-laws c = record {
+  sessions = sessions-rise;
+  rates = rates-stay;
+  rated = gaps-rated;
+  balance = positions-balance;
+  limited = positions-limited;
+  few = trades-few;
+  expiry = expiry-met;
+  apart = months-apart;
+  unpaid = one-unpaid;
+  paid = closes-paid;
+  stays = unpaid-stays;
+  latest = pays-latest;
+  dues = dues-move;
+}
+
+pub returns-clause-sheets : goal.returns-clause-sheets
+returns-clause-sheets c = sheet-rows

@@ -1,0 +1,76 @@
+-- A lawful history in which more happens: day trades, an account and a month that come late, an arbitrated rate, and an expiry beside a month that goes on.
+use Rattle.std.specs.Prelude.{◌≡◌, List, [], ◌∷◌, map, ℤ, pos, neg_ℤ}
+use Rattle.settlement.specs.Examples.{client, table, rows_of, run_world}
+use Rattle.settlement.specs.History.{History, Entered, Listed, Published, Arbitrated, Opened, Traded, Marked, Closed, Paid, written, gather}
+use Rattle.settlement.specs.Lawful.{Lawful}
+use Rattle.settlement.specs.Positions.{position_of, due_of, paid_of}
+use Rattle.settlement.specs.World.{World}
+
+-- from 30 December 2026 on; 1 January 2027 is closed, so the sessions are 9860, 9861, 9865, 9866 and so on
+abbrev pub busy_world : World
+busy_world = run_world
+
+-- 0 for each of three accounts in two months
+abbrev pub no_rows : List (List ℤ)
+no_rows = (pos 0 ∷ pos 0 ∷ []) ∷ (pos 0 ∷ pos 0 ∷ []) ∷ (pos 0 ∷ pos 0 ∷ []) ∷ []
+
+-- The newest first. Month 0 is February 2027; account 2 comes between two sessions, and month 1, January 2027, while the second session is open.
+-- From 9860 to 9861 the price 9,879,300 becomes 9,884,747 by the published rate; from 9861 to 9865, which is the expiry of January, the prices
+-- 9,884,800 and 9,994,500 become 9,890,164 and 9,999,924 by the arbitrated rate of the one reserve day between.
+abbrev pub busy_history : History
+busy_history =
+    Closed (record {
+      adjustments = table ((neg_ℤ (pos 36) ∷ pos 0 ∷ []) ∷ (pos 216 ∷ neg_ℤ (pos 228) ∷ []) ∷ (neg_ℤ (pos 180) ∷ pos 228 ∷ []) ∷ []);
+      day_trades = table no_rows;
+    })
+    ∷ Paid
+    ∷ Marked 0 9890200
+    ∷ Opened 9865
+    ∷ Closed (record {
+      adjustments = table ((neg_ℤ (pos 1658) ∷ pos 0 ∷ []) ∷ (pos 318 ∷ pos 21 ∷ []) ∷ (pos 1340 ∷ neg_ℤ (pos 21) ∷ []) ∷ []);
+      day_trades = table no_rows;
+    })
+    ∷ Arbitrated 9861 14650000
+    ∷ Paid
+    ∷ Marked 1 9994500
+    ∷ Marked 0 9884800
+    ∷ Traded (record { buyer = 1; seller = 2; month = 1; rate = 14851; quantity = 3; price = 9994507 })
+    ∷ Traded (record { buyer = 2; seller = 0; month = 0; rate = 14880; quantity = 5; price = 9885068 })
+    ∷ Listed 324
+    ∷ Opened 9861
+    ∷ Entered (client 12)
+    ∷ Closed (record {
+      adjustments = table ((pos 2342 ∷ []) ∷ (neg_ℤ (pos 2342) ∷ []) ∷ []);
+      day_trades = table ((pos 1412 ∷ []) ∷ (neg_ℤ (pos 1412) ∷ []) ∷ []);
+    })
+    ∷ Published 9860 14900000
+    ∷ Marked 0 9879300
+    ∷ Traded (record { buyer = 1; seller = 0; month = 0; rate = 14950; quantity = 4; price = 9879102 })
+    ∷ Traded (record { buyer = 0; seller = 1; month = 0; rate = 14903; quantity = 10; price = 9879455 })
+    ∷ Opened 9860
+    ∷ Listed 325
+    ∷ Entered (client 11)
+    ∷ Entered (client 10)
+    ∷ []
+
+-- all of it in rows of accounts with columns of months
+pub record BusyHolds : Type 0 where
+  pub lawful : Lawful busy_world busy_history
+  -- what the three closes wrote, in order of time; what came late has nothing in the first
+  pub adjustments : map (λ c. rows_of busy_history c.adjustments) (gather written busy_history)
+      ≡ ((pos 2342 ∷ pos 0 ∷ []) ∷ (neg_ℤ (pos 2342) ∷ pos 0 ∷ []) ∷ (pos 0 ∷ pos 0 ∷ []) ∷ [])
+      ∷ ((neg_ℤ (pos 1658) ∷ pos 0 ∷ []) ∷ (pos 318 ∷ pos 21 ∷ []) ∷ (pos 1340 ∷ neg_ℤ (pos 21) ∷ []) ∷ [])
+      ∷ ((neg_ℤ (pos 36) ∷ pos 0 ∷ []) ∷ (pos 216 ∷ neg_ℤ (pos 228) ∷ []) ∷ (neg_ℤ (pos 180) ∷ pos 228 ∷ []) ∷ [])
+      ∷ []
+  -- only in the first session were contracts both bought and sold: 4 × (9,879,455 − 9,879,102) for account 0
+  pub day_trades : map (λ c. rows_of busy_history c.day_trades) (gather written busy_history)
+      ≡ ((pos 1412 ∷ pos 0 ∷ []) ∷ (neg_ℤ (pos 1412) ∷ pos 0 ∷ []) ∷ (pos 0 ∷ pos 0 ∷ []) ∷ [])
+      ∷ no_rows
+      ∷ no_rows
+      ∷ []
+  -- the positions at the end: those of January are 0
+  pub positions : rows_of busy_history (position_of busy_world busy_history)
+      ≡ (neg_ℤ (pos 1) ∷ pos 0 ∷ []) ∷ (pos 6 ∷ pos 0 ∷ []) ∷ (neg_ℤ (pos 5) ∷ pos 0 ∷ []) ∷ []
+  -- of account 0: 2,342 − 1,658, and what the third close wrote
+  pub paid : paid_of busy_history 0 ≡ pos 684
+  pub due : due_of busy_history 0 ≡ neg_ℤ (pos 36)

@@ -1,0 +1,105 @@
+-- What has happened to a book: the calls that it accepted, the newest first. No code stores it.
+-- Questions, refusals and slips that are written off change nothing in the book, and leave no event.
+use Rattle.std.specs.Prelude.{ℕ, Bool, true, false, cond, List, [], ◌∷◌, ◌++◌, ℤ, is_some, Some, None, Option, ◌==◌}
+use Rattle.amounts.specs.declared.trades.Trade.{Trade}
+use Rattle.settlement.specs.declared.accounts.Account.{Account}
+
+-- what a close wrote for each account and month, by their indices; 0 where it wrote nothing
+pub record Amounts : Type 0 where
+  pub adjustments : ℕ → ℕ → ℤ
+  pub day_trades : ℕ → ℕ → ℤ
+
+-- an accepted call, with what it was given and what it answered or wrote
+pub data Event : Type 0 where
+  Entered : Account → Event
+  -- the number of a month
+  Listed : ℕ → Event
+  -- a day and its rate
+  Published : ℕ → ℕ → Event
+  Arbitrated : ℕ → ℕ → Event
+  -- a session day
+  Opened : ℕ → Event
+  Traded : Trade → Event
+  -- the index of a month and its price
+  Marked : ℕ → ℕ → Event
+  Closed : Amounts → Event
+  Paid : Event
+
+abbrev pub History : Type 0
+History = List Event
+
+-- What an event tells, for each thing that is asked of a history.
+
+abbrev pub entered : Event → Option Account
+entered (Entered x) = Some x
+entered e = None
+
+abbrev pub listed : Event → Option ℕ
+listed (Listed n) = Some n
+listed e = None
+
+-- the rate that a day was given
+abbrev pub rated : ℕ → Event → Option ℕ
+rated x (Published d r) = cond (x == d) (Some r) None
+rated x (Arbitrated d r) = cond (x == d) (Some r) None
+rated x e = None
+
+-- the day of an arbitration
+abbrev pub arbitrated : Event → Option ℕ
+arbitrated (Arbitrated d r) = Some d
+arbitrated e = None
+
+abbrev pub opened : Event → Option ℕ
+opened (Opened d) = Some d
+opened e = None
+
+abbrev pub traded : Event → Option Trade
+traded (Traded t) = Some t
+traded e = None
+
+-- the price that a month was marked with
+abbrev pub marked : ℕ → Event → Option ℕ
+marked x (Marked m p) = cond (x == m) (Some p) None
+marked x e = None
+
+-- what a close wrote
+abbrev pub written : Event → Option Amounts
+written (Closed c) = Some c
+written e = None
+
+abbrev pub is_payment : Event → Bool
+is_payment Paid = true
+is_payment e = false
+
+abbrev pub is_opening : Event → Bool
+is_opening e = is_some (opened e)
+
+-- How a history is looked through.
+
+-- the first where there is one, else the second
+abbrev pub or_else : {X : Type 0} → Option X → Option X → Option X
+or_else (Some x) other = Some x
+or_else None other = other
+
+abbrev pub list_of : {X : Type 0} → Option X → List X
+list_of None = []
+list_of (Some x) = x ∷ []
+
+-- all that the events tell, in order of time
+abbrev pub gather : {X : Type 0} → (Event → Option X) → History → List X
+gather tells [] = []
+gather tells (e ∷ h) = gather tells h ++ list_of (tells e)
+
+-- the newest that an event tells
+abbrev pub newest : {X : Type 0} → (Event → Option X) → History → Option X
+newest tells [] = None
+newest tells (e ∷ h) = or_else (tells e) (newest tells h)
+
+-- what happened since the newest event of a kind, and what happened before it
+abbrev pub since : (Event → Bool) → History → History
+since kind [] = []
+since kind (e ∷ h) = cond (kind e) [] (e ∷ since kind h)
+
+abbrev pub before : (Event → Bool) → History → History
+before kind [] = []
+before kind (e ∷ h) = cond (kind e) h (before kind h)

@@ -1,0 +1,95 @@
+-- Laws of lawful histories.
+use Rattle.std.specs.Prelude.{◌≡◌, ℕ, ◌+◌, ◌<◌, ◌≤◌, true, false, [], ◌∷◌, ◌++◌, length, pos, ◌+ℤ◌, is_some, Some, None, nat_eq, unsigned_abs}
+use Rattle.std.specs.List.{AllByRecursion}
+use Rattle.calendar.specs.Kinds.{is_session}
+use Rattle.calendar.specs.Spans.{reserve_days, First}
+use Rattle.correction.specs.Gaps.{first_unrated}
+use Rattle.pricing.specs.Pricing.{distance}
+use Rattle.amounts.specs.Sums.{total}
+use Rattle.settlement.specs.Accounts.{account_indices, is_among}
+use Rattle.settlement.specs.History.{History, Event, Amounts, Opened, Closed, Paid, written, is_payment, gather, newest, since}
+use Rattle.settlement.specs.Lawful.{Lawful}
+use Rattle.settlement.specs.Observed.{months_of, month_at, expiry_at, rate_on, opened_days, latest_opened, open_session, next_from, trades_of}
+use Rattle.settlement.specs.Positions.{position_of, written_for, due_of, paid_of}
+use Rattle.settlement.specs.Sessions.{sessions_of, oldest_day, newest_day}
+use Rattle.settlement.specs.World.{World}
+
+-- a session that is opened is later than all before it, and the first session day since the latest, or from the start day on
+abbrev pub SessionsRise : Type 0
+SessionsRise = (w : World) (h : History) (d : ℕ) → Lawful w (Opened d ∷ h)
+    → AllByRecursion (λ x. x < d) (opened_days h)
+    × First w.kinds (next_from w (latest_opened h)) (next_from w (latest_opened h) + 60) (Some d)
+
+-- a rate once known stays, whatever happens
+abbrev pub RatesStay : Type 0
+RatesStay = (w : World) (k h : History) (d r : ℕ) → Lawful w (k ++ h) → rate_on w h d ≡ Some r → rate_on w (k ++ h) d ≡ Some r
+
+-- the positions of a month add to zero over the accounts
+abbrev pub PositionsBalance : Type 0
+PositionsBalance = (w : World) (h : History) (m : ℕ) → Lawful w h → total (λ a. position_of w h a m) account_indices ≡ pos 0
+
+-- no position passes 500,000 contracts
+abbrev pub PositionsLimited : Type 0
+PositionsLimited = (w : World) (h : History) (a m : ℕ) → Lawful w h → unsigned_abs (position_of w h a m) ≤ 500000
+
+-- a session has at most 256 trades
+abbrev pub TradesFew : Type 0
+TradesFew = (w : World) (h : History) → Lawful w h → length (trades_of h) ≤ 256
+
+-- the expiry of a listed month is a session day, and no session on it or after it is opened unless it was opened itself
+abbrev pub ExpiryMet : Type 0
+ExpiryMet = (w : World) (h : History) (m : ℕ) → Lawful w h → m < length (months_of h)
+    → (is_session (w.kinds (expiry_at w h m)) ≡ true)
+    × ((d : ℕ) → is_among nat_eq d (opened_days h) ≡ true → expiry_at w h m ≤ d → is_among nat_eq (expiry_at w h m) (opened_days h) ≡ true)
+
+-- in a session, a month whose expiry is still to come is a later month than the session's
+abbrev pub MonthsApart : Type 0
+MonthsApart = (w : World) (h : History) (d m : ℕ) → Lawful w h → open_session h ≡ Some d → m < length (months_of h)
+    → d < expiry_at w h m → 1 ≤ distance d (month_at h m)
+
+-- at most one close is unpaid
+abbrev pub OneUnpaid : Type 0
+OneUnpaid = (w : World) (h : History) → Lawful w h → length (gather written (since is_payment h)) ≤ 1
+
+-- while one is unpaid nothing closes
+abbrev pub ClosesPaid : Type 0
+ClosesPaid = (w : World) (h : History) (c : Amounts) → Lawful w (Closed c ∷ h) → gather written (since is_payment h) ≡ []
+
+-- until an unpaid close is paid, and so for ever where its slip was written off, nothing closes and what is due stays
+abbrev pub UnpaidStays : Type 0
+UnpaidStays = (w : World) (k h : History) → Lawful w (k ++ h) → is_some (newest written (since is_payment h)) ≡ true → AllByRecursion (λ e. is_payment e ≡ false) k
+    → (gather written k ≡ []) × ((a : ℕ) → due_of (k ++ h) a ≡ due_of h a)
+
+-- a payment pays what the latest close wrote, and nothing else
+abbrev pub PaysLatest : Type 0
+PaysLatest = (w : World) (h : History) (c : Amounts) → Lawful w (Paid ∷ h) → newest written h ≡ Some c → (a : ℕ) → due_of h a ≡ written_for a c
+
+-- what moves due and paid, in every history
+pub record DuesMove : Type 0 where
+  -- a close adds what it wrote to what is due
+  pub closed : (h : History) (c : Amounts) (a : ℕ) → (due_of (Closed c ∷ h) a ≡ due_of h a +ℤ written_for a c) × (paid_of (Closed c ∷ h) a ≡ paid_of h a)
+  -- a payment moves all that is due to what is paid
+  pub paid : (h : History) (a : ℕ) → (due_of (Paid ∷ h) a ≡ pos 0) × (paid_of (Paid ∷ h) a ≡ paid_of h a +ℤ due_of h a)
+  -- nothing else moves either
+  pub still : (e : Event) (h : History) (a : ℕ) → written e ≡ None → is_payment e ≡ false → (due_of (e ∷ h) a ≡ due_of h a) × (paid_of (e ∷ h) a ≡ paid_of h a)
+
+-- each reserve day from the first closed session, included, to the latest, excluded, has a rate
+abbrev pub GapsRated : Type 0
+GapsRated = (w : World) (h : History) → Lawful w h
+    → first_unrated (rate_on w h) (reserve_days w.kinds (oldest_day 0 (sessions_of w h)) (newest_day (sessions_of w h))) ≡ None
+
+-- all of them
+pub record LawsHold : Type 0 where
+  pub sessions : SessionsRise
+  pub rates : RatesStay
+  pub rated : GapsRated
+  pub balance : PositionsBalance
+  pub limited : PositionsLimited
+  pub few : TradesFew
+  pub expiry : ExpiryMet
+  pub apart : MonthsApart
+  pub unpaid : OneUnpaid
+  pub paid : ClosesPaid
+  pub stays : UnpaidStays
+  pub latest : PaysLatest
+  pub dues : DuesMove

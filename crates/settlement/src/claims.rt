@@ -1,0 +1,33 @@
+// What is claimed of a book, over every lawful history.
+ghost use Rattle.settlement.specs.Balance.{AlwaysBalanced};
+ghost use Rattle.settlement.specs.Busy.{BusyHolds};
+ghost use Rattle.settlement.specs.Examples.{RunHolds, FullHolds};
+ghost use Rattle.settlement.specs.Laws.{LawsHold};
+ghost use Rattle.settlement.specs.Numbers.{RowsNumbered};
+ghost use Rattle.settlement.specs.Sheets.{SheetRows};
+ghost use Rattle.settlement.specs.Value.{AlwaysValued};
+ghost use Rattle.settlement.specs.Wrong.{WrongCaught};
+
+// Both claims hold of every lawful history, over every world.
+pub fn claims_hold()
+    ensures balanced { AlwaysBalanced }
+    ensures valued { AlwaysValued }
+{}
+
+// The laws of lawful histories, and the rows of the calls: their numbers in order, and what a sheet's
+// faults are among them.
+pub fn laws_hold()
+    ensures laws { LawsHold }
+    ensures rows { RowsNumbered }
+    ensures sheets { SheetRows }
+{}
+
+// Lawful histories with their figures: a month to its end; one with day trades, a late account and a
+// late month; one in which the rounding uses the tolerance to the full; and one beside which five
+// wrong books, which balance, break the second claim.
+pub fn examples_hold()
+    ensures run { RunHolds }
+    ensures busy { BusyHolds }
+    ensures full { FullHolds }
+    ensures wrong { WrongCaught }
+{}
