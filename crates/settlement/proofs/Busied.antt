@@ -7,7 +7,7 @@ use Rattle.settlement.specs.Busy.{busy_world, busy_history, BusyHolds}
 use Rattle.settlement.proofs.Exampled.{figures, december, paper, closes}
 
 -- 31 December 2026 is in December 2026
-december-31 : month_of 9861 ≡ 323
+pub december-31 : month_of 9861 ≡ 323
 unfolding figures
 december-31 = month-is 9861 323 (lit≤ tt) (lit< tt) (lit≤ tt)
 

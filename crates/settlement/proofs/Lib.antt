@@ -6,6 +6,7 @@ pub mod Caught
 pub mod Cells
 pub mod Dealt
 pub mod Dues
+pub mod Edged
 pub mod Ended
 pub mod Exampled
 pub mod Expiring

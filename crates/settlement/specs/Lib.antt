@@ -13,5 +13,6 @@ pub mod Balance
 pub mod Value
 pub mod Examples
 pub mod Wrong
+pub mod Edges
 pub mod Busy
 pub mod Closing

@@ -10,7 +10,7 @@ use Rattle.rates.specs.Layers as layers
 use Rattle.rates.specs.Publishing as publishing
 use Rattle.refusal.specs.declared.Refusal.{Refusal}
 use Rattle.refusal.specs.declared.Refusal.TheVariants.{NotCurrent, NoSuchIndex, Expired, SameSides, BadQuantity, BadRate, TooFar, PositionLimit, SessionFull, BadPrice, SessionOpen, NoSession, Unpaid, Unmarked, MissingRate, ArrayShort, NoLaterSession, TableFull, AlreadyThere, NoExpiry}
-use Rattle.refusal.specs.Refusals.{Row}
+use Rattle.refusal.specs.Refusals.{Row, first_row}
 use Rattle.amounts.specs.declared.trades.Trade.{Trade}
 use Rattle.settlement.specs.declared.accounts.Account.{Account}
 use Rattle.settlement.specs.Accounts.{same_account, is_among}
@@ -130,3 +130,15 @@ position_rows h a m = (not (is_account h a && is_listed h m), NoSuchIndex) ∷ [
 
 abbrev pub balance_rows : History → ℕ → List Row
 balance_rows h a = (not (is_account h a), NoSuchIndex) ∷ []
+
+-- a call that takes a paper hands it back with its refusal
+abbrev pub with_paper : Paper → Option Refusal → Option (Refusal × Paper)
+with_paper paper None = None
+with_paper paper (Some refusal) = Some (refusal, paper)
+
+-- what a refused close and a refused payment answer
+abbrev pub close_refused : World → History → Paper → ℕ → ℕ → Option (Refusal × Paper)
+close_refused w h ticket adjustments day_trades = with_paper ticket (first_row (close_rows w h ticket adjustments day_trades))
+
+abbrev pub pay_refused : World → History → Paper → Option (Refusal × Paper)
+pay_refused w h slip = with_paper slip (first_row (pay_rows w h slip))

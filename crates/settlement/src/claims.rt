@@ -1,6 +1,7 @@
 // What is claimed of a book, over every lawful history.
 ghost use Rattle.settlement.specs.Balance.{AlwaysBalanced};
 ghost use Rattle.settlement.specs.Busy.{BusyHolds};
+ghost use Rattle.settlement.specs.Edges.{EdgesHold};
 ghost use Rattle.settlement.specs.Examples.{RunHolds, FullHolds};
 ghost use Rattle.settlement.specs.Laws.{LawsHold};
 ghost use Rattle.settlement.specs.Numbers.{RowsNumbered};
@@ -19,6 +20,7 @@ pub fn claims_hold()
 pub fn laws_hold()
     ensures laws { LawsHold }
     ensures rows { RowsNumbered }
+    ensures edges { EdgesHold }
     ensures sheets { SheetRows }
 {}
 

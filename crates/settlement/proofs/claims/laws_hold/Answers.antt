@@ -3,6 +3,7 @@ use Rattle.settlement.proofs.Apart.{months-apart}
 use Rattle.settlement.proofs.Balancing.{positions-balance}
 use Rattle.settlement.proofs.Dealt.{trades-few}
 use Rattle.settlement.proofs.Dues.{dues-move, pays-latest, unpaid-stays}
+use Rattle.settlement.proofs.Edged.{edges-hold}
 use Rattle.settlement.proofs.Expiring.{expiry-met}
 use Rattle.settlement.proofs.Gaps.{gaps-rated}
 use Rattle.settlement.proofs.Limits.{positions-limited}
@@ -30,3 +31,6 @@ returns-clause-laws c = record {
 
 pub returns-clause-sheets : goal.returns-clause-sheets
 returns-clause-sheets c = sheet-rows
+
+pub returns-clause-edges : goal.returns-clause-edges
+returns-clause-edges c = edges-hold

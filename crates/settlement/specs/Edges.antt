@@ -1,0 +1,254 @@
+-- The rows of each call at their edges: the last call that passes and the first that is refused, and by which refusal.
+-- The rows of an import and of a sheet that is written are those of reading and writing (Sheets).
+use Rattle.std.specs.Prelude.{◌≡◌, ℕ, List, [], ◌∷◌, ◌++◌, map, replicate, Some, None, Option, pos, cond, ◌==◌}
+use Rattle.std.specs.List.{range_with_len}
+use Rattle.calendar.specs.declared.kind.DayKind.TheVariants as kinds
+use Rattle.refusal.specs.declared.Refusal.{Refusal}
+use Rattle.refusal.specs.declared.Refusal.TheVariants.{NotCurrent, NoSuchIndex, Expired, SameSides, BadQuantity, BadRate, TooFar, PositionLimit, SessionFull, BadPrice, SessionOpen, NoSession, Unpaid, Unmarked, MissingRate, ArrayShort, NoLaterSession, TableFull, AlreadyThere, NoExpiry, OutsideHorizon, HasRate, RateTooHigh, BadPeriod, ArbitrationFull}
+use Rattle.refusal.specs.Refusals.{Row, first_row}
+use Rattle.amounts.specs.declared.trades.Trade.{Trade}
+use Rattle.settlement.specs.Examples.{book_over, client, both}
+use Rattle.settlement.specs.History.{History, Entered, Listed, Published, Arbitrated, Opened, Traded, Marked, Closed, Paid}
+use Rattle.settlement.specs.Rows.{Paper, enter_rows, list_rows, publish_rows, arbitrate_rows, open_rows, trade_rows, mark_rows, close_rows, pay_rows, position_rows, balance_rows, close_refused, pay_refused}
+use Rattle.settlement.specs.World.{World}
+
+-- each of the tables gives the refusal beside it, or none
+abbrev pub Give : List (List Row × Option Refusal) → Type 0
+Give cases = map (λ c. first_row c.0) cases ≡ map (λ c. c.1) cases
+
+-- Monday to Friday are sessions, from 30 December 2026 (day 9,860, a Wednesday) on; rates on days 9,860 to 9,869, with none yet
+abbrev pub weekdays : World
+weekdays = book_over []
+
+-- so, where days have been arbitrated before
+abbrev pub arbitrated_before : ℕ → World
+arbitrated_before n = record { number = 1; start = 9860; kinds = weekdays.kinds; horizon = weekdays.horizon; rates = weekdays.rates; arbitrated = n }
+
+-- one day is a session, and all others are closed
+abbrev pub only_session : ℕ → World
+only_session day = record { number = 1; start = 9860; kinds = λ d. cond (d == day) kinds.Session kinds.Closed; horizon = weekdays.horizon; rates = weekdays.rates; arbitrated = 0 }
+
+-- clients 0, 1 and so on were entered
+abbrev pub with_clients : ℕ → History
+with_clients n = map (λ i. Entered (client i)) (range_with_len 0 n)
+
+-- three accounts and one month, in a session
+abbrev pub session_with : ℕ → ℕ → History
+session_with day month = Opened day ∷ Listed month ∷ with_clients 3
+
+-- three accounts, and the session of 9,860 with February and March 2027 (days 9,893 and 9,921)
+abbrev pub two_months : History
+two_months = Opened 9860 ∷ Listed 326 ∷ Listed 325 ∷ with_clients 3
+
+-- that session closed, with both months marked; nothing was traded
+abbrev pub closed_once : History
+closed_once = Closed (both (pos 0)) ∷ Marked 1 9800000 ∷ Marked 0 9900000 ∷ two_months
+
+-- a paper of the book, for a session
+abbrev pub of_day : ℕ → Paper
+of_day day = record { number = 1; day = day }
+
+abbrev pub of_another_book : ℕ → Paper
+of_another_book day = record { number = 2; day = day }
+
+-- a trade of two accounts in month 0
+abbrev pub between : ℕ → ℕ → ℕ → ℕ → Trade
+between buyer seller rate quantity = record { buyer = buyer; seller = seller; month = 0; rate = rate; quantity = quantity; price = 0 }
+
+-- so many trades, in which account 0 buys in rate from account 1
+abbrev pub dealt : ℕ → ℕ → History
+dealt n quantity = replicate n (Traded (between 0 1 10000 quantity))
+
+-- a trade of account 0 with account 1 in a month, in the session of 9,860
+abbrev pub rate_in : ℕ → ℕ → List Row
+rate_in month rate = trade_rows weekdays (session_with 9860 month) (of_day 9860) (between 0 1 rate 1)
+
+-- a trade in February 2027, in the session of 9,860
+abbrev pub after_trades : History → Trade → List Row
+after_trades trades t = trade_rows weekdays (trades ++ session_with 9860 325) (of_day 9860) t
+
+abbrev pub by_ticket : Paper → History → List Row
+by_ticket ticket h = trade_rows weekdays h ticket (between 0 1 10000 1)
+
+abbrev pub enter_edges : List (List Row × Option Refusal)
+enter_edges =
+    (enter_rows (with_clients 31) (client 31), None)
+    ∷ (enter_rows (with_clients 32) (client 32), Some TableFull)
+    ∷ (enter_rows (with_clients 32) (client 0), Some TableFull)
+    ∷ (enter_rows (with_clients 31) (client 30), Some AlreadyThere)
+    ∷ (enter_rows (with_clients 1) (record { client = 0; participant = 2; member = 1 }), None)
+    ∷ (enter_rows (with_clients 1) (record { client = 0; participant = 1; member = 2 }), None)
+    ∷ []
+
+abbrev pub list_edges : List (List Row × Option Refusal)
+list_edges =
+    (list_rows weekdays (map Listed (range_with_len 324 15)) 400, None)
+    ∷ (list_rows weekdays (map Listed (range_with_len 324 16)) 400, Some TableFull)
+    ∷ (list_rows weekdays (map Listed (range_with_len 324 15)) 324, Some AlreadyThere)
+    -- the last month of the calendar, and past it
+    ∷ (list_rows weekdays [] 1199, None)
+    ∷ (list_rows weekdays [] 1200, Some NoExpiry)
+    -- a month without a session
+    ∷ (list_rows (only_session 9862) [] 325, Some NoExpiry)
+    -- the expiry is the start day, or the day after it
+    ∷ (list_rows (only_session 9860) [] 323, Some NoExpiry)
+    ∷ (list_rows (only_session 9861) [] 323, None)
+    -- the expiry is after the latest session, or is that session
+    ∷ (list_rows weekdays (Opened 9861 ∷ []) 324, None)
+    ∷ (list_rows weekdays (Opened 9862 ∷ []) 324, Some NoExpiry)
+    ∷ []
+
+abbrev pub publish_edges : List (List Row × Option Refusal)
+publish_edges =
+    (publish_rows weekdays [] 9859 1 1, Some OutsideHorizon)
+    ∷ (publish_rows weekdays [] 9860 0 1, None)
+    ∷ (publish_rows weekdays [] 9869 1 1, None)
+    ∷ (publish_rows weekdays [] 9870 1 1, Some OutsideHorizon)
+    ∷ (publish_rows weekdays (Published 9860 0 ∷ []) 9860 1 1, Some HasRate)
+    ∷ (publish_rows weekdays (Arbitrated 9860 0 ∷ []) 9860 1 1, Some HasRate)
+    ∷ (publish_rows weekdays (Published 9860 0 ∷ []) 9861 1 1, None)
+    ∷ (publish_rows weekdays [] 9860 99999999 1, None)
+    ∷ (publish_rows weekdays [] 9860 100000000 2, Some RateTooHigh)
+    ∷ (publish_rows weekdays [] 9860 1 0, Some BadPeriod)
+    ∷ (publish_rows weekdays [] 9860 1 2, Some BadPeriod)
+    ∷ []
+
+abbrev pub arbitrate_edges : List (List Row × Option Refusal)
+arbitrate_edges =
+    (arbitrate_rows weekdays [] 9859 1, Some OutsideHorizon)
+    ∷ (arbitrate_rows weekdays (Published 9860 0 ∷ []) 9860 1, Some HasRate)
+    ∷ (arbitrate_rows weekdays (Arbitrated 9860 0 ∷ []) 9860 1, Some HasRate)
+    ∷ (arbitrate_rows (arbitrated_before 16) [] 9860 100000000, Some RateTooHigh)
+    ∷ (arbitrate_rows (arbitrated_before 15) [] 9860 99999999, None)
+    ∷ (arbitrate_rows (arbitrated_before 15) (Published 9860 0 ∷ []) 9861 1, None)
+    ∷ (arbitrate_rows (arbitrated_before 15) (Arbitrated 9860 0 ∷ []) 9861 1, Some ArbitrationFull)
+    ∷ (arbitrate_rows (arbitrated_before 16) [] 9861 1, Some ArbitrationFull)
+    ∷ []
+
+abbrev pub open_edges : List (List Row × Option Refusal)
+open_edges =
+    (open_rows weekdays [], None)
+    ∷ (open_rows weekdays (Opened 9860 ∷ []), Some SessionOpen)
+    ∷ (open_rows weekdays closed_once, None)
+    -- the sixtieth day from the start day on, and the day after it
+    ∷ (open_rows (only_session 9919) [], None)
+    ∷ (open_rows (only_session 9920) [], Some NoSession)
+    -- the sixtieth day after the latest session, and the day after it
+    ∷ (open_rows (only_session 9920) closed_once, None)
+    ∷ (open_rows (only_session 9921) closed_once, Some NoSession)
+    ∷ []
+
+abbrev pub trade_edges : List (List Row × Option Refusal)
+trade_edges =
+    (by_ticket (of_day 9860) two_months, None)
+    ∷ (by_ticket (of_another_book 9860) two_months, Some NotCurrent)
+    ∷ (by_ticket (of_day 9861) two_months, Some NotCurrent)
+    ∷ (by_ticket (of_day 9860) closed_once, Some NotCurrent)
+    -- indices
+    ∷ (after_trades [] (between 2 0 10000 1), None)
+    ∷ (after_trades [] (between 3 0 10000 1), Some NoSuchIndex)
+    ∷ (after_trades [] (between 0 3 10000 1), Some NoSuchIndex)
+    ∷ (after_trades [] (record { buyer = 0; seller = 1; month = 1; rate = 10000; quantity = 1; price = 0 }), Some NoSuchIndex)
+    -- January 2027, which expires on 9,862
+    ∷ (trade_rows weekdays (session_with 9861 324) (of_day 9861) (between 0 1 10000 1), None)
+    ∷ (trade_rows weekdays (session_with 9862 324) (of_day 9862) (between 0 1 10000 1), Some Expired)
+    ∷ (after_trades [] (between 1 1 10000 0), Some SameSides)
+    -- quantities
+    ∷ (after_trades [] (between 0 1 100000 0), Some BadQuantity)
+    ∷ (after_trades [] (between 0 1 10000 20000), None)
+    ∷ (after_trades [] (between 0 1 10000 20001), Some BadQuantity)
+    -- rates: the highest; three months on and four; twelve and thirteen
+    ∷ (rate_in 325 99999, None)
+    ∷ (rate_in 325 100000, Some BadRate)
+    ∷ (rate_in 326 4, None)
+    ∷ (rate_in 327 4, Some BadRate)
+    ∷ (rate_in 327 5, None)
+    ∷ (rate_in 335 15, None)
+    ∷ (rate_in 336 15, Some BadRate)
+    ∷ (rate_in 336 20, None)
+    -- September 2036, 2,520 reserve days after 9,865 and 2,521 after 9,862
+    ∷ (trade_rows weekdays (session_with 9865 440) (of_day 9865) (between 0 1 10000 1), None)
+    ∷ (trade_rows weekdays (session_with 9862 440) (of_day 9862) (between 0 1 10000 1), Some TooFar)
+    -- 480,000 and 500,000 contracts: the buyer has sold so many in price, the seller bought
+    ∷ (after_trades (dealt 24 20000) (between 0 1 10000 20000), None)
+    ∷ (after_trades (dealt 25 20000) (between 0 2 10000 1), Some PositionLimit)
+    ∷ (after_trades (dealt 25 20000) (between 2 1 10000 1), Some PositionLimit)
+    ∷ (after_trades (dealt 25 20000) (between 1 0 10000 1), None)
+    -- trades of the session
+    ∷ (after_trades (dealt 255 1) (between 0 1 10000 1), None)
+    ∷ (after_trades (dealt 256 1) (between 0 1 10000 1), Some SessionFull)
+    ∷ []
+
+abbrev pub mark_edges : List (List Row × Option Refusal)
+mark_edges =
+    (mark_rows weekdays two_months (of_another_book 9860) 0 1, Some NotCurrent)
+    ∷ (mark_rows weekdays two_months (of_day 9861) 0 1, Some NotCurrent)
+    ∷ (mark_rows weekdays closed_once (of_day 9860) 0 1, Some NotCurrent)
+    ∷ (mark_rows weekdays two_months (of_day 9860) 1 1, None)
+    ∷ (mark_rows weekdays two_months (of_day 9860) 2 1, Some NoSuchIndex)
+    ∷ (mark_rows weekdays (session_with 9862 324) (of_day 9862) 0 0, Some Expired)
+    ∷ (mark_rows weekdays two_months (of_day 9860) 0 0, Some BadPrice)
+    ∷ (mark_rows weekdays two_months (of_day 9860) 0 10000000, None)
+    ∷ (mark_rows weekdays two_months (of_day 9860) 0 10000001, Some BadPrice)
+    ∷ []
+
+abbrev pub close_edges : List (List Row × Option Refusal)
+close_edges =
+    (close_rows weekdays two_months (of_another_book 9860) 6 6, Some NotCurrent)
+    ∷ (close_rows weekdays two_months (of_day 9861) 6 6, Some NotCurrent)
+    ∷ (close_rows weekdays closed_once (of_day 9860) 6 6, Some NotCurrent)
+    ∷ (close_rows weekdays (Opened 9861 ∷ closed_once) (of_day 9861) 6 6, Some Unpaid)
+    -- the lowest month without a mark
+    ∷ (close_rows weekdays two_months (of_day 9860) 6 6, Some (Unmarked 0))
+    ∷ (close_rows weekdays (Marked 0 1 ∷ two_months) (of_day 9860) 6 6, Some (Unmarked 1))
+    ∷ (close_rows weekdays (Marked 1 1 ∷ two_months) (of_day 9860) 6 6, Some (Unmarked 0))
+    -- marks of the session before count for nothing
+    ∷ (close_rows weekdays (Paid ∷ Opened 9861 ∷ closed_once) (of_day 9861) 6 6, Some (Unmarked 0))
+    -- no mark is needed on the expiry
+    ∷ (close_rows weekdays (session_with 9861 324) (of_day 9861) 3 3, Some (Unmarked 0))
+    ∷ (close_rows weekdays (session_with 9862 324) (of_day 9862) 3 3, None)
+    -- the first reserve day of the gap without a rate
+    ∷ (close_rows weekdays (Marked 1 1 ∷ Marked 0 1 ∷ Paid ∷ Opened 9862 ∷ closed_once) (of_day 9862) 6 6, Some (MissingRate 9860))
+    ∷ (close_rows weekdays (Published 9860 1 ∷ Marked 1 1 ∷ Marked 0 1 ∷ Paid ∷ Opened 9862 ∷ closed_once) (of_day 9862) 6 6, Some (MissingRate 9861))
+    ∷ (close_rows weekdays (Published 9861 1 ∷ Published 9860 1 ∷ Marked 1 1 ∷ Marked 0 1 ∷ Paid ∷ Opened 9862 ∷ closed_once) (of_day 9862) 6 6, None)
+    -- with no month too
+    ∷ (close_rows weekdays (Paid ∷ Opened 9861 ∷ Closed (both (pos 0)) ∷ Opened 9860 ∷ []) (of_day 9861) 0 0, Some (MissingRate 9860))
+    -- three accounts in two months
+    ∷ (close_rows weekdays (Marked 1 1 ∷ Marked 0 1 ∷ two_months) (of_day 9860) 6 6, None)
+    ∷ (close_rows weekdays (Marked 1 1 ∷ Marked 0 1 ∷ two_months) (of_day 9860) 5 6, Some ArrayShort)
+    ∷ (close_rows weekdays (Marked 1 1 ∷ Marked 0 1 ∷ two_months) (of_day 9860) 6 5, Some ArrayShort)
+    ∷ []
+
+abbrev pub pay_edges : List (List Row × Option Refusal)
+pay_edges =
+    (pay_rows weekdays (Opened 9861 ∷ closed_once) (of_day 9860), None)
+    ∷ (pay_rows weekdays (Opened 9861 ∷ closed_once) (of_another_book 9860), Some NotCurrent)
+    ∷ (pay_rows weekdays (Opened 9861 ∷ closed_once) (of_day 9861), Some NotCurrent)
+    ∷ (pay_rows weekdays (Paid ∷ Opened 9861 ∷ closed_once) (of_day 9860), Some NotCurrent)
+    ∷ (pay_rows weekdays two_months (of_day 9860), Some NotCurrent)
+    ∷ (pay_rows weekdays closed_once (of_day 9860), Some NoLaterSession)
+    ∷ []
+
+abbrev pub question_edges : List (List Row × Option Refusal)
+question_edges =
+    (position_rows two_months 2 1, None)
+    ∷ (position_rows two_months 3 1, Some NoSuchIndex)
+    ∷ (position_rows two_months 2 2, Some NoSuchIndex)
+    ∷ (balance_rows two_months 2, None)
+    ∷ (balance_rows two_months 3, Some NoSuchIndex)
+    ∷ []
+
+pub record EdgesHold : Type 0 where
+  pub enter : Give enter_edges
+  pub list : Give list_edges
+  pub publish : Give publish_edges
+  pub arbitrate : Give arbitrate_edges
+  pub opens : Give open_edges
+  pub trade : Give trade_edges
+  pub mark : Give mark_edges
+  pub close : Give close_edges
+  pub pay : Give pay_edges
+  pub questions : Give question_edges
+  -- the paper comes back with the refusal
+  pub ticket_back : close_refused weekdays two_months (of_another_book 9860) 6 6 ≡ Some (NotCurrent, of_another_book 9860)
+  pub slip_back : pay_refused weekdays closed_once (of_day 9860) ≡ Some (NoLaterSession, of_day 9860)
