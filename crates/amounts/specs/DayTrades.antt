@@ -11,8 +11,8 @@ units side account month [] = []
 units side account month (t ∷ ts) = replicate (lots_of side account month t) t.price ++ units side account month ts
 
 -- as many contracts as were both bought and sold
-abbrev pub closed : ℕ → ℕ → List Trade → ℕ
-closed account month ts = min (length (units Bought account month ts)) (length (units Sold account month ts))
+abbrev pub matched : ℕ → ℕ → List Trade → ℕ
+matched account month ts = min (length (units Bought account month ts)) (length (units Sold account month ts))
 
 -- the first j contracts of a side at their prices
 unfoldable pub firsts : Side → ℕ → ℕ → ℕ → List Trade → ℕ
@@ -20,4 +20,4 @@ firsts side account month j ts = sum (take j (units side account month ts))
 
 -- the first contracts sold less the first bought, as many as were both
 abbrev pub day_trade : ℕ → ℕ → List Trade → ℤ
-day_trade account month ts = pos (firsts Sold account month (closed account month ts) ts) -ℤ pos (firsts Bought account month (closed account month ts) ts)
+day_trade account month ts = pos (firsts Sold account month (matched account month ts) ts) -ℤ pos (firsts Bought account month (matched account month ts) ts)

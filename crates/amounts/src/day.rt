@@ -2,15 +2,15 @@
 ghost use Rattle.std.specs.Prelude.{◌≡◌, ◌*◌, ◌≤◌, IfSome, unsigned_abs};
 ghost use Rattle.std.specs.Option.{SomeIff};
 ghost use Rattle.amounts.specs.Trades.{Limited};
-ghost use Rattle.amounts.specs.DayTrades.{closed, firsts, day_trade};
+ghost use Rattle.amounts.specs.DayTrades.{matched, firsts, day_trade};
 
 use crate::session::SessionTrades;
 use crate::trades::{AccountMonth, Side, Trade};
 
 impl SessionTrades<'_> {
     // As many contracts as were both bought and sold.
-    fn closed_lots(&self, whose: AccountMonth) -> u32
-        ensures value { result ≡ closed whose.account whose.month self.now.trades.now }
+    fn matched_lots(&self, whose: AccountMonth) -> u32
+        ensures value { result ≡ matched whose.account whose.month self.now.trades.now }
         ensures most { result ≤ 5120000 }
     {
         let bought = self.quantity(Side::Bought, whose);
@@ -42,7 +42,7 @@ pub fn day_trade(trades: &[Trade], whose: AccountMonth) -> Option<i64>
     ensures most { IfSome result (λ x. unsigned_abs x ≤ 5120000 * 4294967296) }
 {
     let session = SessionTrades::new(trades)?;
-    let count = session.closed_lots(whose);
+    let count = session.matched_lots(whose);
     let sold = session.first_units(Side::Sold, count, whose);
     let bought = session.first_units(Side::Bought, count, whose);
     Some(sold as i64 - bought as i64)

@@ -26,7 +26,7 @@ impl<'a> SessionTrades<'a> {
     }
 
     // All contracts of the account on a side in the month.
-    // Kept: the bound is that of another sum in each contract (contracts, change, lots closed), so no one type would carry it.
+    // Kept: the bound is that of another sum in each contract (contracts, change, lots matched), so no one type would carry it.
     pub(crate) fn quantity(&self, side: Side, whose: AccountMonth) -> u32
         ensures value { result ≡ length (units side whose.account whose.month self.now.trades.now) }
         ensures most { result ≤ 5120000 }
