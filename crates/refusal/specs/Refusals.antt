@@ -63,32 +63,9 @@ cause BadSheet = codes "bad sheet"
 
 -- the month or the day that a refusal names
 abbrev pub value_of : Refusal → Option ℕ
-value_of NotCurrent = None
-value_of NoSuchIndex = None
-value_of Expired = None
-value_of SameSides = None
-value_of BadQuantity = None
-value_of BadRate = None
-value_of TooFar = None
-value_of PositionLimit = None
-value_of SessionFull = None
-value_of BadPrice = None
-value_of SessionOpen = None
-value_of NoSession = None
-value_of Unpaid = None
 value_of (Unmarked month) = Some month
 value_of (MissingRate day) = Some day
-value_of ArrayShort = None
-value_of NoLaterSession = None
-value_of TableFull = None
-value_of AlreadyThere = None
-value_of NoExpiry = None
-value_of OutsideHorizon = None
-value_of HasRate = None
-value_of RateTooHigh = None
-value_of BadPeriod = None
-value_of ArbitrationFull = None
-value_of BadSheet = None
+value_of r = None
 
 -- what staff read: the cause, and the value where there is one
 abbrev pub with_value : List ℕ → Option ℕ → List ℕ
