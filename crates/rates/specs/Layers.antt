@@ -11,9 +11,9 @@ use Rattle.rates.specs.Horizons.{inside}
 use Rattle.rates.specs.Listed.{listed}
 use Rattle.rates.specs.Publishing.{day_rows, day_refusal, rate_row, Sets, Published}
 
--- the first where it is a rate, else the second
-abbrev pub or_else : Option ℕ → Option ℕ → Option ℕ
-or_else (Some r) other = Some r
+-- the first where there is one, else the second
+abbrev pub or_else : {X : Type 0} → Option X → Option X → Option X
+or_else (Some x) other = Some x
 or_else None other = other
 
 -- inside the horizon a day has the rate from below, else the arbitrated one

@@ -6,8 +6,9 @@ use Rattle.std.proofs.lemmas.List.{append-nil, length_push, nil_from_length}
 use Rattle.std.proofs.lemmas.Bool.{true≢false}
 use Rattle.amounts.specs.Sums.{total}
 use Rattle.amounts.proofs.Totals.{total-append}
+use Rattle.rates.specs.Layers.{or_else}
 use Rattle.settlement.specs.World.{World}
-use Rattle.settlement.specs.History.{History, Event, Amounts, Closed, written, is_payment, or_else, list_of, gather, newest, since}
+use Rattle.settlement.specs.History.{History, Event, Amounts, Closed, written, is_payment, list_of, gather, newest, since}
 use Rattle.settlement.specs.Positions.{written_for, due_of}
 use Rattle.settlement.specs.Sessions.{latest_closed}
 use Rattle.settlement.specs.Lawful.{Lawful}

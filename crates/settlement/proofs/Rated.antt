@@ -4,7 +4,8 @@ use Rattle.std.proofs.lemmas.Bool.{eqb-true}
 use Rattle.std.proofs.lemmas.Option.{none-some}
 use Rattle.calendar.specs.Spans.{first_in}
 use Rattle.correction.specs.Gaps.{factors, is_unrated, first_unrated}
-use Rattle.settlement.specs.History.{History, Event, Published, Arbitrated, rated, newest, or_else}
+use Rattle.rates.specs.Layers.{or_else}
+use Rattle.settlement.specs.History.{History, Event, Published, Arbitrated, rated, newest}
 use Rattle.settlement.specs.Lawful.{Lawful}
 use Rattle.settlement.specs.Laws.{RatesStay}
 use Rattle.settlement.specs.Observed.{rate_on}

@@ -15,8 +15,9 @@ use Rattle.interest.specs.Price.{day_factor}
 use Rattle.interest.proofs.Bounds.{day-factor-most}
 use Rattle.interest.proofs.Carried.{corrected-none, corrected-first}
 use Rattle.amounts.specs.Trades.{contracts_of, position_change}
+use Rattle.rates.specs.Layers.{or_else}
 use Rattle.settlement.specs.World.{World}
-use Rattle.settlement.specs.History.{History, Amounts, Listed, Opened, Marked, Closed, traded, written, or_else, gather}
+use Rattle.settlement.specs.History.{History, Amounts, Listed, Opened, Marked, Closed, traded, written, gather}
 use Rattle.settlement.specs.Observed.{months_of, is_listed, expiry_at, rate_on, latest_opened, session_day, open_session, next_from, trades_of, mark_of, settlement_price}
 use Rattle.settlement.specs.Sessions.{Session, added, sessions_of, latest_closed, has_reached, gap_to}
 use Rattle.settlement.specs.Positions.{has_ended, contracts_in, position_of, carried_of, corrected_to}

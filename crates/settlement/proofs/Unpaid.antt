@@ -2,8 +2,9 @@
 use Rattle.std.proofs.Common.{◌≡◌, true, [], ◌∷◌, ◌++◌, is_some, Some, None, Option, sym, refl, ap, ◌∙◌, arith}
 use Rattle.std.proofs.lemmas.List.{append-nil}
 use Rattle.std.proofs.lemmas.Bool.{true≢false, cond-true, false_from_ne_true}
+use Rattle.rates.specs.Layers.{or_else}
 use Rattle.settlement.specs.World.{World}
-use Rattle.settlement.specs.History.{History, Event, Closed, Paid, written, is_payment, or_else, list_of, gather, newest, since}
+use Rattle.settlement.specs.History.{History, Event, Closed, Paid, written, is_payment, list_of, gather, newest, since}
 use Rattle.settlement.specs.Sessions.{latest_closed, unpaid_day}
 use Rattle.settlement.specs.Laws.{OneUnpaid, ClosesPaid}
 use Rattle.settlement.proofs.Allowing.{closing, is_none}

@@ -1,6 +1,7 @@
 -- What has happened to a book: the calls that it accepted, the newest first. No code stores it.
 -- Questions, refusals and slips that are written off change nothing in the book, and leave no event.
 use Rattle.std.specs.Prelude.{ℕ, Bool, true, false, cond, List, [], ◌∷◌, ◌++◌, ℤ, is_some, Some, None, Option, ◌==◌}
+use Rattle.rates.specs.Layers.{or_else}
 use Rattle.amounts.specs.declared.trades.Trade.{Trade}
 use Rattle.settlement.specs.declared.accounts.Account.{Account}
 
@@ -75,11 +76,6 @@ abbrev pub is_opening : Event → Bool
 is_opening e = is_some (opened e)
 
 -- How a history is looked through.
-
--- the first where there is one, else the second
-abbrev pub or_else : {X : Type 0} → Option X → Option X → Option X
-or_else (Some x) other = Some x
-or_else None other = other
 
 abbrev pub list_of : {X : Type 0} → Option X → List X
 list_of None = []

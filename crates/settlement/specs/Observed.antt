@@ -4,9 +4,10 @@ use Rattle.std.specs.Option.{unwrap_or}
 use Rattle.calendar.specs.Spans.{first_session}
 use Rattle.pricing.specs.Pricing.{expiry_day}
 use Rattle.amounts.specs.declared.trades.Trade.{Trade}
+use Rattle.rates.specs.Layers.{or_else}
 use Rattle.settlement.specs.declared.accounts.Account.{Account}
 use Rattle.settlement.specs.World.{World}
-use Rattle.settlement.specs.History.{History, entered, listed, rated, opened, traded, marked, written, is_opening, or_else, gather, newest, since}
+use Rattle.settlement.specs.History.{History, entered, listed, rated, opened, traded, marked, written, is_opening, gather, newest, since}
 
 -- the accounts and the numbers of the months, by their indices
 abbrev pub accounts_of : History → List Account
