@@ -1,10 +1,10 @@
--- What a close pays an account in a month, in centavos.
+-- What a close writes for an account in a month, in centavos.
 use Rattle.std.specs.Prelude.{ℕ, ◌≤◌, List, ℤ, pos, ◌+ℤ◌, ◌-ℤ◌, ◌*ℤ◌, unsigned_abs}
 use Rattle.amounts.specs.declared.trades.Trade.{Trade}
 use Rattle.amounts.specs.Sums.{total}
 use Rattle.amounts.specs.Trades.{contracts_of, Limited}
 
--- contracts that go from one price to another
+-- what contracts gain from the price before to the price
 unfoldable pub gain_of : ℤ → ℕ → ℕ → ℤ
 gain_of contracts price before = contracts *ℤ (pos price -ℤ pos before)
 
@@ -12,7 +12,7 @@ gain_of contracts price before = contracts *ℤ (pos price -ℤ pos before)
 unfoldable pub on_trades : ℕ → ℕ → ℕ → List Trade → ℤ
 on_trades account month price ts = total (λ t. gain_of (contracts_of account month t) price t.price) ts
 
--- the position of the day before, from its corrected price to the settlement price
+-- the carried position, from the corrected price to the settlement price
 abbrev pub on_carried : ℤ → ℕ → ℕ → ℤ
 on_carried position price corrected = gain_of position price corrected
 

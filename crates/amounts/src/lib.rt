@@ -1,4 +1,4 @@
-// What the close of a session pays an account in a month, from its trades and its position.
+// What the close of a session writes for an account in a month, from its trades and its position.
 #![tactic(auto)]
 
 mod amounts;
