@@ -1,15 +1,9 @@
 -- The busy history is lawful, event by event, and comes to what is said of it.
-use Rattle.std.proofs.Common.{◌≡◌, drop, refl, lit<, lit≤}
-use Rattle.dates.specs.Months.{month_of}
-use Rattle.dates.proofs.MonthLaws.{month-is}
+use Rattle.std.proofs.Common.{drop, refl}
 use Rattle.settlement.specs.Lawful.{Lawful}
 use Rattle.settlement.specs.Busy.{busy_world, busy_history, BusyHolds}
-use Rattle.settlement.proofs.Exampled.{figures, december, paper, closes}
-
--- 31 December 2026 is in December 2026
-pub december-31 : month_of 9861 ≡ 323
-unfolding figures
-december-31 = month-is 9861 323 (lit≤ tt) (lit< tt) (lit≤ tt)
+use Rattle.settlement.proofs.Exampled.{figures, paper, closes}
+use Rattle.settlement.proofs.Monthly.{december, december-31}
 
 -- up to the first close, the newest event first
 busy-first : Lawful busy_world (drop 14 busy_history)

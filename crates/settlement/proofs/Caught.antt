@@ -1,10 +1,8 @@
 -- The history of the wrong books is lawful with the right amounts, and the second claim fails of it with each pair of wrong ones.
-use Rattle.std.proofs.Common.{◌≡◌, ℕ, zero, suc, drop, ℤ, pos, ◌+ℤ◌, refl, arith, lit<, lit≤}
+use Rattle.std.proofs.Common.{◌≡◌, ℕ, zero, suc, drop, ℤ, pos, ◌+ℤ◌, refl, arith, lit<}
 use borrow.Author.Differences.{ints}
 use Rattle.std.specs.List.{AllByRecursion}
 use Rattle.std.proofs.ByRecursion.{All-weaker}
-use Rattle.dates.specs.Months.{month_of}
-use Rattle.dates.proofs.MonthLaws.{month-is}
 use Rattle.amounts.specs.Sums.{total}
 use Rattle.settlement.specs.Accounts.{account_indices}
 use Rattle.settlement.specs.Balance.{Balanced}
@@ -12,13 +10,9 @@ use Rattle.settlement.specs.Positions.{written_for}
 use Rattle.settlement.specs.Lawful.{Lawful}
 use Rattle.settlement.specs.Examples.{both}
 use Rattle.settlement.specs.Value.{Valued}
-use Rattle.settlement.specs.Wrong.{wrong_world, wrong_history, right_history, wrong_amounts, book_of, TooFar, WrongCaught}
-use Rattle.settlement.proofs.Exampled.{figures, december, paper, closes}
-
--- 1 January 2027 is in January 2027
-january : month_of 9862 ≡ 324
-unfolding figures
-january = month-is 9862 324 (lit≤ tt) (lit< tt) (lit≤ tt)
+use Rattle.settlement.specs.Wrong.{wrong_world, wrong_history, right_history, wrong_amounts, book_of, OutsideTolerance, WrongCaught}
+use Rattle.settlement.proofs.Exampled.{figures, paper, closes}
+use Rattle.settlement.proofs.Monthly.{december, january}
 
 -- up to the first close, the newest event first
 right-first : Lawful wrong_world (drop 7 right_history)
@@ -46,12 +40,12 @@ all-balanced x y = record {
   accounts = λ a. regrouped (written_for a (both x)) (written_for a (both y));
 }
 
-all-caught : AllByRecursion TooFar wrong_amounts
+all-caught : AllByRecursion OutsideTolerance wrong_amounts
 unfolding figures
-all-caught = (lit< tt, (lit< tt, (lit< tt, (lit< tt, (lit< tt, tt)))))
+all-caught = (lit< tt, (lit< tt, (lit< tt, (lit< tt, (lit< tt, (lit< tt, (lit< tt, tt)))))))
 
 -- the two sides are those of the claim
-breaks : (p : ℤ × ℤ) → TooFar p → Valued wrong_world (book_of p) → ⊥
+breaks : (p : ℤ × ℤ) → OutsideTolerance p → Valued wrong_world (book_of p) → ⊥
 breaks p l v = omega (arith, v.near 1 0 (lit< tt))
 
 pub wrong-caught : WrongCaught
@@ -59,5 +53,5 @@ wrong-caught = record {
   right = right-lawful;
   balanced = all-balanced;
   caught = all-caught;
-  broken = All-weaker TooFar (λ p. Valued wrong_world (book_of p) → ⊥) breaks wrong_amounts all-caught;
+  broken = All-weaker OutsideTolerance (λ p. Valued wrong_world (book_of p) → ⊥) breaks wrong_amounts all-caught;
 }

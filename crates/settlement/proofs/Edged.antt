@@ -1,19 +1,8 @@
 -- The rows at their edges, computed.
-use Rattle.std.proofs.Common.{◌≡◌, refl, lit<, lit≤}
-use Rattle.dates.specs.Months.{month_of}
-use Rattle.dates.proofs.MonthLaws.{month-is}
+use Rattle.std.proofs.Common.{refl}
 use Rattle.settlement.specs.Edges.{EdgesHold}
-use Rattle.settlement.proofs.Busied.{december-31}
-use Rattle.settlement.proofs.Exampled.{figures, december}
-
--- 1 and 4 January 2027 are in January 2027
-january : month_of 9862 ≡ 324
-unfolding figures
-january = month-is 9862 324 (lit≤ tt) (lit< tt) (lit≤ tt)
-
-january-4 : month_of 9865 ≡ 324
-unfolding figures
-january-4 = month-is 9865 324 (lit≤ tt) (lit< tt) (lit≤ tt)
+use Rattle.settlement.proofs.Exampled.{figures}
+use Rattle.settlement.proofs.Monthly.{december, december-31, january, january-4}
 
 pub edges-hold : EdgesHold
 unfolding figures

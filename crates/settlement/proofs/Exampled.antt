@@ -1,11 +1,10 @@
 -- The two histories of the examples are lawful, event by event, and come to what is said of them.
-use Rattle.std.proofs.Common.{◌≡◌, ℕ, ◌<◌, ◌≤◌, List, [], map, length, get_or, drop, ℤ, pos, refl, inl, inr, arith, lit<, lit≤}
+use Rattle.std.proofs.Common.{◌≡◌, ℕ, ◌<◌, ◌≤◌, List, [], map, length, get_or, drop, ℤ, pos, refl, inl, inr, arith}
 use lib.ListN.{get_or-eq_default}
 use Rattle.std.specs.List.{range_with_len}
 use Rattle.std.proofs.lemmas.List.FromFn.{length-map-range_with_len, get_or-map-range_with_len}
 use Rattle.std.proofs.lemmas.Bool.{cases_lt}
-use Rattle.dates.specs.Months.{first_day, month_length, month_of}
-use Rattle.dates.proofs.MonthLaws.{month-is}
+use Rattle.dates.specs.Months.{first_day, month_length}
 use Rattle.calendar.specs.Spans.{days_by}
 use Rattle.interest.specs.Power.{power_of, climb, root_of}
 use Rattle.interest.specs.Price.{day_factor, after_years, after_days, trade_price}
@@ -18,17 +17,13 @@ use Rattle.settlement.specs.Observed.{accounts_of, months_of, trades_of}
 use Rattle.settlement.specs.Positions.{adjustment_at}
 use Rattle.settlement.specs.Rows.{Paper, cells_of, close_rows}
 use Rattle.settlement.specs.Lawful.{Allowed, Closes, InBook, Lawful}
+use Rattle.settlement.proofs.Monthly.{december}
 use Rattle.settlement.specs.Examples.{table, rows_of, run_world, run_history, RunHolds, full_world, full_history, FullHolds}
 
 -- what the proofs compute with
 unfoldable pub figures : Unit {0}
 unfolding days_by first_day month_length power_of climb root_of day_factor after_years after_days trade_price corrected gain_of on_trades units firsts
 figures = tt
-
--- 30 December 2026 is in December 2026
-pub december : month_of 9860 ≡ 323
-unfolding figures
-december = month-is 9860 323 (lit≤ tt) (lit< tt) (lit≤ tt)
 
 -- a ticket or a slip of the book
 abbrev pub paper : ℕ → Paper

@@ -20,12 +20,24 @@ use Rattle.amounts.specs.Sums.{total}
 use Rattle.amounts.specs.Trades.{contracts_of, position_change}
 use Rattle.amounts.specs.Amounts.{gain_of, on_trades, adjustment_of}
 use Rattle.settlement.specs.World.{World}
-use Rattle.settlement.specs.Sessions.{Session, up_to, oldest_day}
+use Rattle.settlement.specs.Sessions.{Session, up_to, oldest_day, newest_day, newest_price}
 use Rattle.settlement.specs.Positions.{contracts_in, corrected_to}
-use Rattle.settlement.specs.Value.{scale_of, adjustments_over, value_over, held_on, held_over, NearFrom}
+use Rattle.settlement.specs.Value.{scale_of, adjustments_over, value_over, held_on, held_over}
 use Rattle.settlement.proofs.Cells.{gain-none}
 use Rattle.settlement.proofs.Falling.{Falling}
 use Rattle.settlement.proofs.Scales.{sums_same, sums-times, days-within, growth, unit, unit-split, scale-on, scale-here, days-drift}
+
+-- ---- the claim, over sessions that count for a month
+-- the inequality, with the last price carried and the reserve days given
+abbrev pub Near : (ℕ → ℕ) → ℕ → List ℕ → ℕ → ℕ → List Session → Type 0
+Near scale last_carried days a m ss =
+    nat_abs (pos 20 *ℤ adjustments_over scale a m ss -ℤ pos 20 *ℤ value_over scale last_carried a m ss) ≤ 10 * held_over scale a m ss days
+
+-- the newest of them is its last
+abbrev pub NearFrom : World → (ℕ → Option ℕ) → ℕ → ℕ → ℕ → List Session → Type 0
+NearFrom w rates first a m ss =
+    Near (scale_of w.kinds rates first (newest_day ss)) (newest_price m ss * scale_of w.kinds rates first (newest_day ss) (newest_day ss))
+    (reserve_days w.kinds first (newest_day ss)) a m ss
 
 -- ---- the trades of a session
 module _ (a m : ℕ) where

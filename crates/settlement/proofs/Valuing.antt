@@ -14,7 +14,7 @@ use Rattle.settlement.specs.Observed.{months_of, is_listed, expiry_at, rate_on, 
 use Rattle.settlement.specs.Sessions.{Session, sessions_of, up_to, has_reached, gap_to, oldest_day}
 use Rattle.settlement.specs.Positions.{has_ended, corrected_to}
 use Rattle.settlement.specs.Lawful.{Lawful}
-use Rattle.settlement.specs.Value.{NearFrom, AlwaysValued}
+use Rattle.settlement.specs.Value.{AlwaysValued}
 use Rattle.settlement.proofs.Allowing.{closing}
 use Rattle.settlement.proofs.Cells.{cells}
 use Rattle.settlement.proofs.Ended.{ended}
@@ -23,7 +23,7 @@ use Rattle.settlement.proofs.Falling.{Falling}
 use Rattle.settlement.proofs.Limits.{unreached}
 use Rattle.settlement.proofs.Order.{falling, open-later}
 use Rattle.settlement.proofs.Rated.{Kept, rate-stays, factors-stay, rated-stay}
-use Rattle.settlement.proofs.Telescope.{Adjusted, Ruled, all-kept, near}
+use Rattle.settlement.proofs.Telescope.{NearFrom, Adjusted, Ruled, all-kept, near}
 
 module _ (w : World) (a m expiry : ℕ) where
   -- a session up to the expiry is adjusted by the rules, over a gap whose reserve days have rates

@@ -1,17 +1,15 @@
 -- Two lawful histories, and what they come to.
-use Rattle.std.specs.Prelude.{◌≡◌, ℕ, ◌*◌, List, [], ◌∷◌, map, length, ℤ, pos, ◌-ℤ◌, ◌*ℤ◌, neg_ℤ, None, slice_index_or, unsigned_abs}
+use Rattle.std.specs.Prelude.{◌≡◌, ℕ, List, [], ◌∷◌, map, length, ℤ, pos, neg_ℤ, None, slice_index_or}
 use Rattle.std.specs.List.{range_with_len}
 use Rattle.calendar.specs.declared.rule.Exception.{Exception}
 use Rattle.calendar.specs.Kinds.{ruled}
-use Rattle.calendar.specs.Spans.{reserve_days}
 use Rattle.calendar.specs.declared.kind.DayKind.TheVariants.{Closed}
 use Rattle.amounts.specs.declared.trades.Trade.{Trade}
 use Rattle.settlement.specs.declared.accounts.Account.{Account}
 use Rattle.settlement.specs.History.{History, Amounts, Entered, Listed, Published, Opened, Traded, Marked, Closed, Paid, written, gather}
 use Rattle.settlement.specs.Lawful.{Lawful}
-use Rattle.settlement.specs.Observed.{accounts_of, months_of, expiry_at, rate_on}
-use Rattle.settlement.specs.Sessions.{Session, sessions_of, up_to, oldest_day, newest_day, newest_price}
-use Rattle.settlement.specs.Value.{scale_of, adjustments_over, value_over, held_over}
+use Rattle.settlement.specs.Observed.{accounts_of, months_of}
+use Rattle.settlement.specs.Value.{apart_of, tolerance_of}
 use Rattle.settlement.specs.World.{World}
 
 -- a book from 30 December 2026 on, with no rates yet
@@ -44,27 +42,6 @@ rows_of h x = map (λ a. map (x a) (range_with_len 0 (length (months_of h)))) (r
 -- a close of two accounts in one month, where account 1 gets x and account 0 the opposite, with no day trades
 abbrev pub both : ℤ → Amounts
 both x = record { adjustments = table ((neg_ℤ x ∷ []) ∷ (x ∷ []) ∷ []); day_trades = table ((pos 0 ∷ []) ∷ (pos 0 ∷ []) ∷ []) }
-
--- ---- the two sides of the second claim
-
--- the sessions that count for a month: up to its expiry
-abbrev pub counted_of : World → History → ℕ → List Session
-counted_of w h m = up_to (expiry_at w h m) (sessions_of w h)
-
--- what an amount of a day is multiplied by
-abbrev pub scale_in : World → History → ℕ → ℕ → ℕ
-scale_in w h m = scale_of w.kinds (rate_on w h) (oldest_day 0 (sessions_of w h)) (newest_day (counted_of w h m))
-
--- how far the adjustments of an account in a month are from the value of its trades
-abbrev pub distance_of : World → History → ℕ → ℕ → ℕ
-distance_of w h a m =
-    unsigned_abs (pos 20 *ℤ adjustments_over (scale_in w h m) a m (counted_of w h m)
-    -ℤ pos 20 *ℤ value_over (scale_in w h m) (newest_price m (counted_of w h m) * scale_in w h m (newest_day (counted_of w h m))) a m (counted_of w h m))
-
--- how far they may be
-abbrev pub tolerance_of : World → History → ℕ → ℕ → ℕ
-tolerance_of w h a m =
-    10 * held_over (scale_in w h m) a m (counted_of w h m) (reserve_days w.kinds (oldest_day 0 (sessions_of w h)) (newest_day (counted_of w h m)))
 
 -- ---- a month to its end
 
@@ -132,5 +109,5 @@ full_history =
 abbrev pub FullHolds : Type 0
 FullHolds =
     Lawful full_world full_history
-    × (distance_of full_world full_history 1 0 ≡ tolerance_of full_world full_history 1 0)
+    × (apart_of full_world full_history 1 0 ≡ tolerance_of full_world full_history 1 0)
     × (tolerance_of full_world full_history 1 0 ≡ 1000000000)

@@ -41,20 +41,36 @@ held_on a m ss d = unsigned_abs (contracts_in a m (up_to d ss))
 abbrev pub held_over : (ℕ → ℕ) → ℕ → ℕ → List Session → List ℕ → ℕ
 held_over scale a m ss days = sum_by (λ d. held_on a m ss d * scale (d + 1)) days
 
--- the inequality, with the last price carried and the reserve days given
-abbrev pub Near : (ℕ → ℕ) → ℕ → List ℕ → ℕ → ℕ → List Session → Type 0
-Near scale last_carried days a m ss =
-    unsigned_abs (pos 20 *ℤ adjustments_over scale a m ss -ℤ pos 20 *ℤ value_over scale last_carried a m ss) ≤ 10 * held_over scale a m ss days
+-- ---- for an account and a month
 
--- the claim for sessions that count for a month, the newest of which is its last
-abbrev pub NearFrom : World → (ℕ → Option ℕ) → ℕ → ℕ → ℕ → List Session → Type 0
-NearFrom w rates first a m ss =
-    Near (scale_of w.kinds rates first (newest_day ss)) (newest_price m ss * scale_of w.kinds rates first (newest_day ss) (newest_day ss))
-    (reserve_days w.kinds first (newest_day ss)) a m ss
+-- the closed sessions that count for a month: up to its expiry
+abbrev pub counted_of : World → History → ℕ → List Session
+counted_of w h m = up_to (expiry_at w h m) (sessions_of w h)
+
+-- the day of the book's first closed session, and of the month's last
+abbrev pub first_closed : World → History → ℕ
+first_closed w h = oldest_day 0 (sessions_of w h)
+
+abbrev pub last_closed : World → History → ℕ → ℕ
+last_closed w h m = newest_day (counted_of w h m)
+
+abbrev pub scale_in : World → History → ℕ → ℕ → ℕ
+scale_in w h m = scale_of w.kinds (rate_on w h) (first_closed w h) (last_closed w h m)
+
+-- how far the adjustments are from the value of the trades
+abbrev pub apart_of : World → History → ℕ → ℕ → ℕ
+apart_of w h a m =
+    unsigned_abs (pos 20 *ℤ adjustments_over (scale_in w h m) a m (counted_of w h m)
+    -ℤ pos 20 *ℤ value_over (scale_in w h m) (newest_price m (counted_of w h m) * scale_in w h m (last_closed w h m)) a m (counted_of w h m))
+
+-- how far they may be
+abbrev pub tolerance_of : World → History → ℕ → ℕ → ℕ
+tolerance_of w h a m =
+    10 * held_over (scale_in w h m) a m (counted_of w h m) (reserve_days w.kinds (first_closed w h) (last_closed w h m))
 
 pub record Valued (w : World) (h : History) : Type 0 where
-  -- of each account and listed month, over the closed sessions up to the month's expiry
-  pub near : (a m : ℕ) → m < length (months_of h) → NearFrom w (rate_on w h) (oldest_day 0 (sessions_of w h)) a m (up_to (expiry_at w h m) (sessions_of w h))
+  -- of each account, in each listed month
+  pub near : (a m : ℕ) → m < length (months_of h) → apart_of w h a m ≤ tolerance_of w h a m
   -- after the expiry all adjustments are 0
   pub over : (a m : ℕ) → m < length (months_of h) → AllByRecursion (λ s. expiry_at w h m < s.day → s.amounts.adjustments a m ≡ pos 0) (sessions_of w h)
 

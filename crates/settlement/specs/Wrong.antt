@@ -3,10 +3,10 @@ use Rattle.std.specs.Prelude.{◌<◌, List, [], ◌∷◌, ℤ, pos, neg_ℤ}
 use Rattle.std.specs.List.{AllByRecursion}
 use Rattle.calendar.specs.declared.kind.DayKind.TheVariants.{Reserve}
 use Rattle.settlement.specs.Balance.{Balanced}
-use Rattle.settlement.specs.Examples.{book_over, client, deal, both, distance_of, tolerance_of}
+use Rattle.settlement.specs.Examples.{book_over, client, deal, both}
 use Rattle.settlement.specs.History.{History, Entered, Listed, Published, Opened, Traded, Marked, Closed, Paid}
 use Rattle.settlement.specs.Lawful.{Lawful}
-use Rattle.settlement.specs.Value.{Valued}
+use Rattle.settlement.specs.Value.{apart_of, tolerance_of, Valued}
 use Rattle.settlement.specs.World.{World}
 
 -- 31 December 2026 is a reserve day without a session: two reserve days go by from the session of 30 December to that of 1 January 2027, day 9862
@@ -51,6 +51,10 @@ wrong_amounts =
     ∷ (pos 5000, pos 171120)
     -- the position with the session's own trade in it: + 140 × (9,885,000 − 9,882,172)
     ∷ (pos 5000, pos 284040)
+    -- no rates looked at: + 100 × (9,885,000 − 9,873,300), not corrected at all
+    ∷ (pos 5000, pos 1058120)
+    -- zeros written
+    ∷ (pos 0, pos 0)
     ∷ []
 
 -- the book with these amounts
@@ -58,8 +62,8 @@ abbrev pub book_of : ℤ × ℤ → History
 book_of p = wrong_history p.0 p.1
 
 -- account 1 is further from the value of its trades than the second claim lets it be
-abbrev pub TooFar : ℤ × ℤ → Type 0
-TooFar p = tolerance_of wrong_world (book_of p) 1 0 < distance_of wrong_world (book_of p) 1 0
+abbrev pub OutsideTolerance : ℤ × ℤ → Type 0
+OutsideTolerance p = tolerance_of wrong_world (book_of p) 1 0 < apart_of wrong_world (book_of p) 1 0
 
 pub record WrongCaught : Type 0 where
   -- the right amounts are lawful, so that both claims hold of them
@@ -67,6 +71,6 @@ pub record WrongCaught : Type 0 where
   -- the first claim holds whatever the closes wrote
   pub balanced : (x y : ℤ) → Balanced (wrong_history x y)
   -- all the wrong amounts are too far off
-  pub caught : AllByRecursion TooFar wrong_amounts
+  pub caught : AllByRecursion OutsideTolerance wrong_amounts
   -- so the second claim fails of each
   pub broken : AllByRecursion (λ p. Valued wrong_world (book_of p) → ⊥) wrong_amounts
