@@ -1,4 +1,4 @@
--- A lawful history in which more happens: day trades, an account and a month that come late, an arbitrated rate, and an expiry beside a month that goes on.
+-- A lawful history in which more happens: day trades, an account and a month that come late, an arbitrated rate, and an expiry beside a month that goes on, with a session after it.
 use Rattle.std.specs.Prelude.{◌≡◌, List, [], ◌∷◌, map, ℤ, pos, neg_ℤ}
 use Rattle.settlement.specs.Examples.{client, table, rows_of, run_world}
 use Rattle.settlement.specs.History.{History, Entered, Listed, Published, Arbitrated, Opened, Traded, Marked, Closed, Paid, written, gather}
@@ -16,10 +16,19 @@ no_rows = (pos 0 ∷ pos 0 ∷ []) ∷ (pos 0 ∷ pos 0 ∷ []) ∷ (pos 0 ∷ p
 
 -- The newest first. Month 0 is February 2027; account 2 comes between two sessions, and month 1, January 2027, while the second session is open.
 -- From 9860 to 9861 the price 9,879,300 becomes 9,884,747 by the published rate; from 9861 to 9865, which is the expiry of January, the prices
--- 9,884,800 and 9,994,500 become 9,890,164 and 9,999,924 by the arbitrated rate of the one reserve day between.
+-- 9,884,800 and 9,994,500 become 9,890,164 and 9,999,924 by the arbitrated rate of the one reserve day between. From 9865 to 9866 the price of
+-- February becomes 9,895,584; January is over.
 abbrev pub busy_history : History
 busy_history =
     Closed (record {
+      adjustments = table ((neg_ℤ (pos 66) ∷ pos 0 ∷ []) ∷ (pos 396 ∷ pos 0 ∷ []) ∷ (neg_ℤ (pos 330) ∷ pos 0 ∷ []) ∷ []);
+      day_trades = table no_rows;
+    })
+    ∷ Published 9865 14700000
+    ∷ Marked 0 9895650
+    ∷ Paid
+    ∷ Opened 9866
+    ∷ Closed (record {
       adjustments = table ((neg_ℤ (pos 36) ∷ pos 0 ∷ []) ∷ (pos 216 ∷ neg_ℤ (pos 228) ∷ []) ∷ (neg_ℤ (pos 180) ∷ pos 228 ∷ []) ∷ []);
       day_trades = table no_rows;
     })
@@ -56,21 +65,23 @@ busy_history =
 -- all of it in rows of accounts with columns of months
 pub record BusyHolds : Type 0 where
   pub lawful : Lawful busy_world busy_history
-  -- what the three closes wrote, in order of time; what came late has nothing in the first
+  -- what the four closes wrote, in order of time; what came late has nothing in the first, and January nothing in the last
   pub adjustments : map (λ c. rows_of busy_history c.adjustments) (gather written busy_history)
       ≡ ((pos 2342 ∷ pos 0 ∷ []) ∷ (neg_ℤ (pos 2342) ∷ pos 0 ∷ []) ∷ (pos 0 ∷ pos 0 ∷ []) ∷ [])
       ∷ ((neg_ℤ (pos 1658) ∷ pos 0 ∷ []) ∷ (pos 318 ∷ pos 21 ∷ []) ∷ (pos 1340 ∷ neg_ℤ (pos 21) ∷ []) ∷ [])
       ∷ ((neg_ℤ (pos 36) ∷ pos 0 ∷ []) ∷ (pos 216 ∷ neg_ℤ (pos 228) ∷ []) ∷ (neg_ℤ (pos 180) ∷ pos 228 ∷ []) ∷ [])
+      ∷ ((neg_ℤ (pos 66) ∷ pos 0 ∷ []) ∷ (pos 396 ∷ pos 0 ∷ []) ∷ (neg_ℤ (pos 330) ∷ pos 0 ∷ []) ∷ [])
       ∷ []
   -- only in the first session were contracts both bought and sold: 4 × (9,879,455 − 9,879,102) for account 0
   pub day_trades : map (λ c. rows_of busy_history c.day_trades) (gather written busy_history)
       ≡ ((pos 1412 ∷ pos 0 ∷ []) ∷ (neg_ℤ (pos 1412) ∷ pos 0 ∷ []) ∷ (pos 0 ∷ pos 0 ∷ []) ∷ [])
       ∷ no_rows
       ∷ no_rows
+      ∷ no_rows
       ∷ []
   -- the positions at the end: those of January are 0
   pub positions : rows_of busy_history (position_of busy_world busy_history)
       ≡ (neg_ℤ (pos 1) ∷ pos 0 ∷ []) ∷ (pos 6 ∷ pos 0 ∷ []) ∷ (neg_ℤ (pos 5) ∷ pos 0 ∷ []) ∷ []
-  -- of account 0: 2,342 − 1,658, and what the third close wrote
-  pub paid : paid_of busy_history 0 ≡ pos 684
-  pub due : due_of busy_history 0 ≡ neg_ℤ (pos 36)
+  -- of account 0: 2,342 − 1,658 − 36, and what the last close wrote
+  pub paid : paid_of busy_history 0 ≡ pos 648
+  pub due : due_of busy_history 0 ≡ neg_ℤ (pos 66)

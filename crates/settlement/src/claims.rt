@@ -24,9 +24,9 @@ pub fn laws_hold()
     ensures sheets { SheetRows }
 {}
 
-// Lawful histories with their figures: a month to its end; one with day trades, a late account and a
-// late month; one in which the rounding uses the tolerance to the full; and one beside which five
-// wrong books, which balance, break the second claim.
+// Lawful histories with their figures: a month to its end; one with day trades, a late account, a late
+// month and a session after an expiry; one in which the rounding uses the tolerance to the full; and
+// one beside which wrong books, which balance, break the second claim.
 pub fn examples_hold()
     ensures run { RunHolds }
     ensures busy { BusyHolds }
