@@ -5,7 +5,7 @@ use Rattle.std.proofs.lemmas.List.Sums.{sum_by-cons}
 use Rattle.amounts.specs.declared.trades.Side.{Side}
 use Rattle.amounts.specs.declared.trades.Side.TheVariants.{Bought, Sold}
 use Rattle.amounts.specs.declared.trades.Trade.{Trade}
-use Rattle.amounts.specs.Accounts.{Once, Among}
+use Rattle.amounts.proofs.Accounts.{Once, Among}
 use Rattle.amounts.specs.Sums.{total}
 use Rattle.amounts.specs.Trades.{party_of, lots_of, contracts_of}
 use Rattle.amounts.specs.Amounts.{gain_of, on_trades}

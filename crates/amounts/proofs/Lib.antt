@@ -1,3 +1,4 @@
+pub mod Accounts
 pub mod Bounds
 pub mod Gains
 pub mod Laws

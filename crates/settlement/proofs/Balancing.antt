@@ -6,7 +6,7 @@ use Rattle.std.specs.List.{AllByRecursion}
 use Rattle.std.proofs.ByRecursion.{All-append, All-weaker}
 use Rattle.std.proofs.lemmas.Bool.{true≢false, eqb-true, agree_below_at}
 use Rattle.amounts.specs.declared.trades.Trade.{Trade}
-use Rattle.amounts.specs.Accounts.{Once, Among}
+use Rattle.amounts.proofs.Accounts.{Once, Among}
 use Rattle.amounts.specs.Amounts.{gain_of, on_trades}
 use Rattle.amounts.specs.Sums.{total}
 use Rattle.amounts.specs.Trades.{contracts_of, position_change}
