@@ -8,7 +8,8 @@ pub const MOST_TRADES: usize = 256;
 // The most contracts of a trade.
 pub const MOST_QUANTITY: u32 = 20_000;
 
-// A trade of a session, with sides in rate: accounts and month by index, the price in centavos.
+// A trade of a session, with sides in rate: accounts and month by index, the rate in thousandths of a
+// percent, the price in centavos.
 #[derive(Clone, Copy, PartialEq, Eq, Debug)]
 pub struct Trade {
     pub buyer: u8,

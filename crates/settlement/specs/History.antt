@@ -5,7 +5,7 @@ use Rattle.rates.specs.Layers.{or_else}
 use Rattle.amounts.specs.declared.trades.Trade.{Trade}
 use Rattle.settlement.specs.declared.accounts.Account.{Account}
 
--- what a close wrote for each account and month, by their indices; 0 where it wrote nothing
+-- what a close wrote for each account and month, by their indices, in centavos; 0 where it wrote nothing
 pub record Amounts : Type 0 where
   pub adjustments : ℕ → ℕ → ℤ
   pub day_trades : ℕ → ℕ → ℤ
@@ -15,13 +15,13 @@ pub data Event : Type 0 where
   Entered : Account → Event
   -- the number of a month
   Listed : ℕ → Event
-  -- a day and its rate
+  -- a day, and its rate in millionths of a percent
   Published : ℕ → ℕ → Event
   Arbitrated : ℕ → ℕ → Event
   -- a session day
   Opened : ℕ → Event
   Traded : Trade → Event
-  -- the index of a month and its price
+  -- the index of a month, and its price in centavos
   Marked : ℕ → ℕ → Event
   Closed : Amounts → Event
   Paid : Event

@@ -68,6 +68,6 @@ trades_of h = gather traded (in_session h)
 abbrev pub mark_of : History → ℕ → Option ℕ
 mark_of h m = newest (marked m) (in_session h)
 
--- the settlement price of a month in the session: 10,000,000 on its expiry, else the latest mark
+-- the settlement price of a month in the session, in centavos: 10,000,000 on its expiry, else the latest mark, 0 without one
 abbrev pub settlement_price : World → History → ℕ → ℕ
 settlement_price w h m = cond (session_day h == expiry_at w h m) 10000000 (unwrap_or (mark_of h m) 0)

@@ -40,7 +40,7 @@ adjustment_at w h a m =
 abbrev pub written_for : ℕ → Amounts → ℤ
 written_for a c = total (c.adjustments a) month_indices
 
--- due: what closes wrote since the latest payment; paid: what closes wrote before it
+-- due is what closes wrote since the latest payment, paid what they wrote before it, in centavos
 abbrev pub due_of : History → ℕ → ℤ
 due_of h a = total (written_for a) (gather written (since is_payment h))
 

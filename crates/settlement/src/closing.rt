@@ -19,8 +19,8 @@ pub struct Settled {
     pub price: u32,
 }
 
-// A month at the close of a session: the latest closed session before it, its day and the settlement
-// price.
+// A month at the close of a session: the latest session closed before, if there is one, the day of
+// this session, and the settlement price in it.
 #[derive(Clone, Copy, PartialEq, Eq, Debug)]
 pub struct MonthClose {
     pub latest: Option<Settled>,
