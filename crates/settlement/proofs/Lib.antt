@@ -12,6 +12,7 @@ pub mod Exampled
 pub mod Expiring
 pub mod Falling
 pub mod Gaps
+pub mod Imports
 pub mod Limits
 pub mod Monthly
 pub mod Order

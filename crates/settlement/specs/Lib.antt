@@ -7,6 +7,7 @@ pub mod Positions
 pub mod Rows
 pub mod Sheets
 pub mod Numbers
+pub mod Imports
 pub mod Lawful
 pub mod Laws
 pub mod Balance

@@ -3,6 +3,7 @@ ghost use Rattle.settlement.specs.Balance.{AlwaysBalanced};
 ghost use Rattle.settlement.specs.Busy.{BusyHolds};
 ghost use Rattle.settlement.specs.Edges.{EdgesHold};
 ghost use Rattle.settlement.specs.Examples.{RunHolds, FullHolds};
+ghost use Rattle.settlement.specs.Imports.{ImportsHold};
 ghost use Rattle.settlement.specs.Laws.{LawsHold};
 ghost use Rattle.settlement.specs.Numbers.{RowsNumbered};
 ghost use Rattle.settlement.specs.Sheets.{SheetRows};
@@ -22,6 +23,7 @@ pub fn laws_hold()
     ensures rows { RowsNumbered }
     ensures edges { EdgesHold }
     ensures sheets { SheetRows }
+    ensures imports { ImportsHold }
 {}
 
 // Lawful histories with their figures: a month to its end; one with day trades, a late account, a late

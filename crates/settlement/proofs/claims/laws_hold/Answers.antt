@@ -6,6 +6,7 @@ use Rattle.settlement.proofs.Dues.{dues-move, pays-latest, unpaid-stays}
 use Rattle.settlement.proofs.Edged.{edges-hold}
 use Rattle.settlement.proofs.Expiring.{expiry-met}
 use Rattle.settlement.proofs.Gaps.{gaps-rated}
+use Rattle.settlement.proofs.Imports.{imports-hold}
 use Rattle.settlement.proofs.Limits.{positions-limited}
 use Rattle.settlement.proofs.Order.{sessions-rise}
 use Rattle.settlement.proofs.Rated.{rates-stay}
@@ -34,3 +35,6 @@ returns-clause-sheets c = sheet-rows
 
 pub returns-clause-edges : goal.returns-clause-edges
 returns-clause-edges c = edges-hold
+
+pub returns-clause-imports : goal.returns-clause-imports
+returns-clause-imports c = imports-hold
