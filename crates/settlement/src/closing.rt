@@ -7,10 +7,10 @@ ghost use Rattle.settlement.specs.declared.closing.Unsettled.TheVariants.{NotCor
 ghost use Rattle.settlement.specs.Closing.{corrected_in, Correctable, Uncorrectable, carried_in, Computed, Answers};
 ghost use Rattle.settlement.specs.Value.{AlwaysValued};
 
+use amounts::{AccountMonth, MOST_CARRIED, Trade, adjustment, position_change};
 use calendar::kind::Calendar;
 use correction::{Gap, Uncorrected, correct};
 use rates::source::RateSource;
-use amounts::{AccountMonth, MOST_CARRIED, Trade, adjustment, position_change};
 
 // The latest closed session as a month sees it: its day and the settlement price.
 #[derive(Clone, Copy, PartialEq, Eq, Debug)]

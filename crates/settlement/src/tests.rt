@@ -1,9 +1,9 @@
 use crate::*;
+use amounts::{AccountMonth, Trade};
 use calendar::rule::{Exception, RuleCalendar};
 use correction::Uncorrected;
 use rates::flat::FlatSource;
 use rates::horizon::Horizon;
-use amounts::{AccountMonth, Trade};
 use std::test::Fail;
 
 fn settled(day: u32, price: u32) -> Option<Settled> {
