@@ -11,6 +11,7 @@ pub mod Exampled
 pub mod Expiring
 pub mod Falling
 pub mod Gaps
+pub mod Late
 pub mod Limits
 pub mod Order
 pub mod Rated

@@ -5,6 +5,7 @@ use Rattle.settlement.proofs.Dealt.{trades-few}
 use Rattle.settlement.proofs.Dues.{dues-move, pays-latest, unpaid-stays}
 use Rattle.settlement.proofs.Expiring.{expiry-met}
 use Rattle.settlement.proofs.Gaps.{gaps-rated}
+use Rattle.settlement.proofs.Late.{late-carries-nothing}
 use Rattle.settlement.proofs.Limits.{positions-limited}
 use Rattle.settlement.proofs.Order.{sessions-rise}
 use Rattle.settlement.proofs.Rated.{rates-stay}
@@ -21,6 +22,7 @@ returns-clause-laws c = record {
   few = trades-few;
   expiry = expiry-met;
   apart = months-apart;
+  late = late-carries-nothing;
   unpaid = one-unpaid;
   paid = closes-paid;
   stays = unpaid-stays;
