@@ -48,7 +48,7 @@ module _ (n k a m : ℕ) (out : (a < n) × (m < k) → ⊥) where
   all-outside : (ts : List Trade) → AllByRecursion (Fits n k) ts → AllByRecursion (λ t. contracts_of a m t ≡ pos 0) ts
   all-outside ts f = All-weaker (Fits n k) (λ t. contracts_of a m t ≡ pos 0) (λ t g. outside n k a m t g out) ts f
 
-  contracts-outside : (ss : List Session) → AllByRecursion (λ s. AllByRecursion (Fits n k) s.trades) ss → contracts_in a m ss ≡ pos 0
+  pub contracts-outside : (ss : List Session) → AllByRecursion (λ s. AllByRecursion (Fits n k) s.trades) ss → contracts_in a m ss ≡ pos 0
   contracts-outside ss f =
       total-none (λ s. position_change a m s.trades) ss
       (All-weaker (λ s. AllByRecursion (Fits n k) s.trades) (λ s. position_change a m s.trades ≡ pos 0)

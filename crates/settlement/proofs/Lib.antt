@@ -13,6 +13,7 @@ pub mod Expiring
 pub mod Falling
 pub mod Gaps
 pub mod Imports
+pub mod Late
 pub mod Limits
 pub mod Monthly
 pub mod Order

@@ -9,7 +9,7 @@ use Rattle.std.proofs.lemmas.Bool.{both_ways, cases_lt, and_parts, cond_both}
 use Rattle.calendar.specs.declared.kind.DayKind.{DayKind}
 use Rattle.calendar.specs.Kinds.{is_reserve}
 use Rattle.calendar.specs.Spans.{First, days_by, reserve_days, first_in}
-use Rattle.correction.specs.Gaps.{factor_on, factors}
+use Rattle.correction.specs.Gaps.{factor_on, factors, corrected_price}
 use Rattle.interest.specs.Correction.{corrected_day, corrected}
 use Rattle.interest.specs.Price.{day_factor}
 use Rattle.interest.proofs.Bounds.{day-factor-most}
@@ -18,9 +18,9 @@ use Rattle.amounts.specs.Trades.{contracts_of, position_change}
 use Rattle.rates.specs.Layers.{or_else}
 use Rattle.settlement.specs.World.{World}
 use Rattle.settlement.specs.History.{History, Amounts, Listed, Opened, Marked, Closed, traded, written, gather}
-use Rattle.settlement.specs.Observed.{months_of, is_listed, expiry_at, rate_on, latest_opened, session_day, open_session, next_from, trades_of, mark_of, settlement_price}
+use Rattle.settlement.specs.Observed.{months_of, is_listed, expiry_at, latest_opened, session_day, open_session, next_from, trades_of, mark_of, settlement_price}
 use Rattle.settlement.specs.Sessions.{Session, added, sessions_of, latest_closed, has_reached, gap_to}
-use Rattle.settlement.specs.Positions.{has_ended, contracts_in, position_of, carried_of, corrected_to}
+use Rattle.settlement.specs.Positions.{has_ended, contracts_in, position_of, carried_of}
 use Rattle.settlement.specs.Lawful.{Lawful}
 use Rattle.settlement.proofs.Allowing.{open-on, marking, opening, closing}
 use Rattle.settlement.proofs.Dealt.{dealt-split}
@@ -156,14 +156,10 @@ factors-small : (rates : ℕ → Option ℕ) → RatesLimited rates → (days : 
 factors-small rates b [] = tt
 factors-small rates b (d ∷ days) = (factor-small rates b d, factors-small rates b days)
 
--- the latest settlement price, corrected to the open session, fits in 32 bits
-pub corrected-fits : (w : World) (h : History) (d : ℕ) → Lawful w h → open_session h ≡ Some d → RatesLimited (rate_on w h) → (m : ℕ)
-    → corrected_to w (rate_on w h) d (sessions_of w h) m < 2 ^ 32
-corrected-fits w h d l o b m = by (sessions_of w h) (prices-limited w h l) (gap-short w h d l o)
-  where
-    by : (ss : List Session) → AllByRecursion (λ s. (m : ℕ) → s.prices m ≤ 10000000) ss → length (gap_to w d ss) ≤ 60 → corrected_to w (rate_on w h) d ss m < 2 ^ 32
-    by [] p n = omega arith
-    by (s ∷ ss) p n =
-        let days = reserve_days w.kinds s.day d in
-        let k = corrected-small (s.prices m) (factors (rate_on w h) days) (p.0 m) (factors-small (rate_on w h) b days) (rw (length-map days (factor_on (rate_on w h))) n) in
-        omega arith
+-- a price of at most 10,000,000, corrected over a short gap, fits in 32 bits
+pub corrected-fits : (kinds : ℕ → DayKind) (rates : ℕ → Option ℕ) → RatesLimited rates → (from to price : ℕ) → length (reserve_days kinds from to) ≤ 60 → price ≤ 10000000
+    → corrected_price kinds rates from to price < 2 ^ 32
+corrected-fits kinds rates b from to price n p =
+    let days = reserve_days kinds from to in
+    let k = corrected-small price (factors rates days) p (factors-small rates b days) (rw (length-map days (factor_on rates)) n) in
+    omega arith

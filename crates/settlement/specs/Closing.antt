@@ -1,5 +1,5 @@
 -- What the close of a session knows of a month and of an account, and what it settles.
-use Rattle.std.specs.Prelude.{◌≡◌, ℕ, ◌^◌, ◌<◌, List, [], ◌∷◌, ℤ, ◌-ℤ◌, Some, None, Option, Result, MatchResult}
+use Rattle.std.specs.Prelude.{◌≡◌, ℕ, ◌^◌, ◌<◌, ◌≤◌, ◌⊎◌, List, [], ◌∷◌, ℤ, pos, ◌-ℤ◌, Some, None, Option, Result, MatchResult}
 use Rattle.calendar.specs.declared.kind.DayKind.{DayKind}
 use Rattle.calendar.specs.Spans.{reserve_days}
 use Rattle.correction.specs.declared.Uncorrected.{Uncorrected}
@@ -16,7 +16,7 @@ use Rattle.settlement.specs.declared.closing.Unsettled.TheVariants.{NotCorrected
 use Rattle.settlement.specs.History.{History}
 use Rattle.settlement.specs.Lawful.{Lawful}
 use Rattle.settlement.specs.Observed.{rate_on, open_session, trades_of, settlement_price}
-use Rattle.settlement.specs.Positions.{position_of, adjustment_at}
+use Rattle.settlement.specs.Positions.{position_of, carried_of, adjustment_at}
 use Rattle.settlement.specs.Sessions.{Session, sessions_of, gap_to}
 use Rattle.settlement.specs.World.{World}
 
@@ -59,10 +59,11 @@ Computed kinds rates close trades a m position r =
     × (x ≡ adjustment_of a m close.price trades (carried_in a m trades position) (corrected_in kinds rates close.latest close.day)))
     (Unsettles kinds rates close trades (carried_in a m trades position))
 
--- the latest closed session as a month sees it
-abbrev pub settled_in : ℕ → List Session → Option Settled
-settled_in m [] = None
-settled_in m (s ∷ ss) = Some (record { day = s.day; price = s.prices m })
+-- the latest closed session as the close sees it: its day, and its price of the month; where nothing is carried, any price up to 10,000,000
+abbrev pub LatestSeen : List Session → ℕ → ℤ → Option Settled → Type 0
+LatestSeen [] m carried latest = latest ≡ None
+LatestSeen (s ∷ ss) m carried None = ⊥
+LatestSeen (s ∷ ss) m carried (Some x) = (x.day ≡ s.day) × ((x.price ≡ s.prices m) ⊎ ((carried ≡ pos 0) × (x.price ≤ 10000000)))
 
 -- a lawful history with an open session, of which the close knows this
 pub record Seen (w : World) (h : History) (kinds : ℕ → DayKind) (rates : ℕ → Option ℕ) (close : MonthClose) (trades : List Trade) (a m : ℕ) (position : ℤ) : Type 0 where
@@ -70,7 +71,7 @@ pub record Seen (w : World) (h : History) (kinds : ℕ → DayKind) (rates : ℕ
   pub session : open_session h ≡ Some close.day
   pub calendar : w.kinds ≡ kinds
   pub source : rate_on w h ≡ rates
-  pub latest : settled_in m (sessions_of w h) ≡ close.latest
+  pub latest : LatestSeen (sessions_of w h) m (carried_of w h a m) close.latest
   pub price : settlement_price w h m ≡ close.price
   pub dealt : trades_of h ≡ trades
   pub held : position_of w h a m ≡ position

@@ -75,6 +75,9 @@ is_payment e = false
 abbrev pub is_opening : Event → Bool
 is_opening e = is_some (opened e)
 
+abbrev pub is_close : Event → Bool
+is_close e = is_some (written e)
+
 -- How a history is looked through.
 
 abbrev pub list_of : {X : Type 0} → Option X → List X

@@ -7,10 +7,10 @@ use Rattle.correction.specs.Gaps.{first_unrated}
 use Rattle.pricing.specs.Pricing.{distance}
 use Rattle.amounts.specs.Sums.{total}
 use Rattle.settlement.specs.Accounts.{account_indices, is_among}
-use Rattle.settlement.specs.History.{History, Event, Amounts, Opened, Closed, Paid, written, is_payment, gather, newest, since}
+use Rattle.settlement.specs.History.{History, Event, Amounts, Opened, Closed, Paid, written, is_payment, is_close, gather, newest, since, before}
 use Rattle.settlement.specs.Lawful.{Lawful}
 use Rattle.settlement.specs.Observed.{months_of, month_at, expiry_at, rate_on, opened_days, latest_opened, open_session, next_from, trades_of}
-use Rattle.settlement.specs.Positions.{position_of, written_for, due_of, paid_of}
+use Rattle.settlement.specs.Positions.{position_of, carried_of, written_for, due_of, paid_of}
 use Rattle.settlement.specs.Sessions.{sessions_of, oldest_day, newest_day}
 use Rattle.settlement.specs.World.{World}
 
@@ -46,6 +46,10 @@ ExpiryMet = (w : World) (h : History) (m : ℕ) → Lawful w h → m < length (m
 abbrev pub MonthsApart : Type 0
 MonthsApart = (w : World) (h : History) (d m : ℕ) → Lawful w h → open_session h ≡ Some d → m < length (months_of h)
     → d < expiry_at w h m → 1 ≤ distance d (month_at h m)
+
+-- a month listed since the latest close carries nothing into the session; before the first close none does
+abbrev pub LateCarriesNothing : Type 0
+LateCarriesNothing = (w : World) (h : History) (a m : ℕ) → Lawful w h → length (months_of (before is_close h)) ≤ m → carried_of w h a m ≡ pos 0
 
 -- at most one close is unpaid
 abbrev pub OneUnpaid : Type 0
@@ -88,6 +92,7 @@ pub record LawsHold : Type 0 where
   pub few : TradesFew
   pub expiry : ExpiryMet
   pub apart : MonthsApart
+  pub late : LateCarriesNothing
   pub unpaid : OneUnpaid
   pub paid : ClosesPaid
   pub stays : UnpaidStays

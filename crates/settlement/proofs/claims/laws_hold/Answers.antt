@@ -7,6 +7,7 @@ use Rattle.settlement.proofs.Edged.{edges-hold}
 use Rattle.settlement.proofs.Expiring.{expiry-met}
 use Rattle.settlement.proofs.Gaps.{gaps-rated}
 use Rattle.settlement.proofs.Imports.{imports-hold}
+use Rattle.settlement.proofs.Late.{late-carries-nothing}
 use Rattle.settlement.proofs.Limits.{positions-limited}
 use Rattle.settlement.proofs.Order.{sessions-rise}
 use Rattle.settlement.proofs.Rated.{rates-stay}
@@ -23,6 +24,7 @@ returns-clause-laws c = record {
   few = trades-few;
   expiry = expiry-met;
   apart = months-apart;
+  late = late-carries-nothing;
   unpaid = one-unpaid;
   paid = closes-paid;
   stays = unpaid-stays;
