@@ -39,7 +39,7 @@ trades-in-time w (Traded t ∷ h) l =
     (all_stay w h (Traded t) (trades-in-time w h l.1)) (in-time-stays w h (Traded t) (session_day h) t i)
 trades-in-time w (e ∷ h) l = rw (append-nil (trades_of h)) (all_stay w h e (trades-in-time w h l.1))
 
-no-contracts : (a m : ℕ) (t : Trade) → (t.month ≡ m → ⊥) → contracts_of a m t ≡ pos 0
+pub no-contracts : (a m : ℕ) (t : Trade) → (t.month ≡ m → ⊥) → contracts_of a m t ≡ pos 0
 no-contracts a m t n = rw (ne_eqb t.month m n)
 
 -- none is in a month that expires before it or on it

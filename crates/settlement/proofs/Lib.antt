@@ -13,6 +13,7 @@ pub mod Expiring
 pub mod Falling
 pub mod Gaps
 pub mod Limits
+pub mod Moving
 pub mod Order
 pub mod Rated
 pub mod Reliance

@@ -16,3 +16,4 @@ pub mod Wrong
 pub mod Edges
 pub mod Busy
 pub mod Closing
+pub mod Moves

@@ -7,6 +7,7 @@ use Rattle.settlement.proofs.Edged.{edges-hold}
 use Rattle.settlement.proofs.Expiring.{expiry-met}
 use Rattle.settlement.proofs.Gaps.{gaps-rated}
 use Rattle.settlement.proofs.Limits.{positions-limited}
+use Rattle.settlement.proofs.Moving.{positions-move}
 use Rattle.settlement.proofs.Order.{sessions-rise}
 use Rattle.settlement.proofs.Rated.{rates-stay}
 use Rattle.settlement.proofs.SheetRows.{sheet-rows}
@@ -28,6 +29,9 @@ returns-clause-laws c = record {
   latest = pays-latest;
   dues = dues-move;
 }
+
+pub returns-clause-moves : goal.returns-clause-moves
+returns-clause-moves c = record { positions = positions-move }
 
 pub returns-clause-sheets : goal.returns-clause-sheets
 returns-clause-sheets c = sheet-rows
