@@ -21,5 +21,6 @@ pub mod Scales
 pub mod Settling
 pub mod SheetRows
 pub mod Telescope
+pub mod Traded
 pub mod Unpaid
 pub mod Valuing

@@ -1,11 +1,15 @@
--- What accepted calls move: the positions; and what holds of the trades of every session.
-use Rattle.std.specs.Prelude.{◌≡◌, ℕ, Bool, cond, ◌&&◌, ◌∷◌, pos, ◌+ℤ◌, None, nat_le}
+-- What accepted calls move: the positions; and what holds of the trades of every session, whatever was accepted since.
+use Rattle.std.specs.Prelude.{◌≡◌, ℕ, ◌<◌, Bool, cond, ◌&&◌, ◌∷◌, length, pos, ◌+ℤ◌, None, nat_le}
+use Rattle.std.specs.List.{AllByRecursion}
+use Rattle.interest.specs.Price.{trade_price}
+use Rattle.pricing.specs.Pricing.{days_to}
 use Rattle.amounts.specs.declared.trades.Trade.{Trade}
 use Rattle.amounts.specs.Trades.{contracts_of}
 use Rattle.settlement.specs.History.{History, Event, Amounts, Traded, Closed, traded, written}
 use Rattle.settlement.specs.Lawful.{Lawful}
-use Rattle.settlement.specs.Observed.{is_listed, expiry_at, session_day}
+use Rattle.settlement.specs.Observed.{months_of, is_listed, month_at, expiry_at, session_day, trades_of}
 use Rattle.settlement.specs.Positions.{position_of}
+use Rattle.settlement.specs.Sessions.{sessions_of}
 use Rattle.settlement.specs.World.{World}
 
 -- a listed month whose expiry is not after the latest session
@@ -16,12 +20,29 @@ is_expired w h m = is_listed h m && nat_le (expiry_at w h m) (session_day h)
 pub record PositionsMove : Type 0 where
   -- a trade adds its contracts
   pub trade : (w : World) (h : History) (t : Trade) (a m : ℕ) → Lawful w (Traded t ∷ h) → position_of w (Traded t ∷ h) a m ≡ position_of w h a m +ℤ contracts_of a m t
-  -- a close on the expiry or after it leaves 0, and any other what there was
+  -- a close leaves 0 where the month's expiry is not after it, else what there was
   pub close : (w : World) (h : History) (c : Amounts) (a m : ℕ) → Lawful w (Closed c ∷ h)
       → position_of w (Closed c ∷ h) a m ≡ cond (is_expired w h m) (pos 0) (position_of w h a m)
   -- nothing else moves it
   pub still : (w : World) (e : Event) (h : History) (a m : ℕ) → Lawful w (e ∷ h) → traded e ≡ None → written e ≡ None → position_of w (e ∷ h) a m ≡ position_of w h a m
 
+-- it holds of each trade of each closed session, and of the latest session, with that session's day
+abbrev pub OfTrades : World → History → (ℕ → Trade → Type 0) → Type 0
+OfTrades w h P = AllByRecursion (λ s. AllByRecursion (P s.day) s.trades) (sessions_of w h) × AllByRecursion (P (session_day h)) (trades_of h)
+
+-- a trade in a listed month, on a day before its expiry
+abbrev pub InTime : World → History → ℕ → Trade → Type 0
+InTime w h day t = (t.month < length (months_of h)) × (day < expiry_at w h t.month)
+
+-- a trade at the price of that day
+abbrev pub AtPrice : World → History → ℕ → Trade → Type 0
+AtPrice w h day t = t.price ≡ trade_price t.rate (days_to w.kinds day (month_at h t.month))
+
+-- each trade is in a listed month, before its expiry
+abbrev pub TradesInTime : Type 0
+TradesInTime = (w : World) (h : History) → Lawful w h → OfTrades w h (InTime w h)
+
 -- all of them
 pub record MovesHold : Type 0 where
   pub positions : PositionsMove
+  pub in_time : TradesInTime

@@ -4,6 +4,7 @@ use Rattle.settlement.proofs.Balancing.{positions-balance}
 use Rattle.settlement.proofs.Dealt.{trades-few}
 use Rattle.settlement.proofs.Dues.{dues-move, pays-latest, unpaid-stays}
 use Rattle.settlement.proofs.Edged.{edges-hold}
+use Rattle.settlement.proofs.Ended.{trades-in-time}
 use Rattle.settlement.proofs.Expiring.{expiry-met}
 use Rattle.settlement.proofs.Gaps.{gaps-rated}
 use Rattle.settlement.proofs.Limits.{positions-limited}
@@ -31,7 +32,7 @@ returns-clause-laws c = record {
 }
 
 pub returns-clause-moves : goal.returns-clause-moves
-returns-clause-moves c = record { positions = positions-move }
+returns-clause-moves c = record { positions = positions-move; in_time = trades-in-time }
 
 pub returns-clause-sheets : goal.returns-clause-sheets
 returns-clause-sheets c = sheet-rows
