@@ -20,11 +20,11 @@ use Rattle.settlement.proofs.Order.{all_among, in_order}
 use Rattle.settlement.proofs.Expiring.{listed-stays, months-stay, listed-later, expiry-opened}
 use Rattle.settlement.proofs.Traded.{of-trades}
 
-in-time-stays : (w : World) (h : History) (e : Event) (day : ℕ) (t : Trade) → InTime w h day t → InTime w (e ∷ h) day t
+pub in-time-stays : (w : World) (h : History) (e : Event) (day : ℕ) (t : Trade) → InTime w h day t → InTime w (e ∷ h) day t
 in-time-stays w h e day t i = (listed-stays h e t.month i.0, rw (months-stay w h e t.month i.0) i.1)
 
 -- a trade that is accepted is in a month that expires after the session
-in-time : (w : World) (h : History) (t : Trade) → Lawful w (Traded t ∷ h) → InTime w h (session_day h) t
+pub in-time : (w : World) (h : History) (t : Trade) → Lawful w (Traded t ∷ h) → InTime w h (session_day h) t
 in-time w h t l = let x = trading w h t l.0 in (x.month, rw x.session.day x.before-expiry)
 
 pub trades-in-time : TradesInTime

@@ -15,6 +15,7 @@ pub mod Gaps
 pub mod Limits
 pub mod Moving
 pub mod Order
+pub mod Priced
 pub mod Rated
 pub mod Reliance
 pub mod Scales

@@ -42,7 +42,12 @@ AtPrice w h day t = t.price ≡ trade_price t.rate (days_to w.kinds day (month_a
 abbrev pub TradesInTime : Type 0
 TradesInTime = (w : World) (h : History) → Lawful w h → OfTrades w h (InTime w h)
 
+-- each trade has the price of its day
+abbrev pub TradesPriced : Type 0
+TradesPriced = (w : World) (h : History) → Lawful w h → OfTrades w h (AtPrice w h)
+
 -- all of them
 pub record MovesHold : Type 0 where
   pub positions : PositionsMove
   pub in_time : TradesInTime
+  pub priced : TradesPriced

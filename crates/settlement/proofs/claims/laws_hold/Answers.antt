@@ -10,6 +10,7 @@ use Rattle.settlement.proofs.Gaps.{gaps-rated}
 use Rattle.settlement.proofs.Limits.{positions-limited}
 use Rattle.settlement.proofs.Moving.{positions-move}
 use Rattle.settlement.proofs.Order.{sessions-rise}
+use Rattle.settlement.proofs.Priced.{trades-priced}
 use Rattle.settlement.proofs.Rated.{rates-stay}
 use Rattle.settlement.proofs.SheetRows.{sheet-rows}
 use Rattle.settlement.proofs.Unpaid.{one-unpaid, closes-paid}
@@ -32,7 +33,7 @@ returns-clause-laws c = record {
 }
 
 pub returns-clause-moves : goal.returns-clause-moves
-returns-clause-moves c = record { positions = positions-move; in_time = trades-in-time }
+returns-clause-moves c = record { positions = positions-move; in_time = trades-in-time; priced = trades-priced }
 
 pub returns-clause-sheets : goal.returns-clause-sheets
 returns-clause-sheets c = sheet-rows
