@@ -1,13 +1,13 @@
 -- After the last session of a month its adjustments are 0.
 use Rattle.std.proofs.Common.{◌≡◌, ℕ, ◌<◌, ◌≤◌, true, ◌⊎◌, List, [], ◌∷◌, ◌++◌, length, get_or, pos, Some, ap, ◌∙◌, inl, inr, arith}
 use Rattle.std.specs.List.{AllByRecursion}
-use Rattle.std.proofs.ByRecursion.{All-push, All-weaker}
+use Rattle.std.proofs.ByRecursion.{All-weaker}
 use Rattle.std.proofs.lemmas.List.{append-nil, length_push, get_or_push, get_or_append_left}
 use Rattle.std.proofs.lemmas.Bool.{cases_lt, lt-ltb, ne_eqb, and_from}
 use Rattle.pricing.specs.Pricing.{expiry_day}
 use Rattle.amounts.specs.declared.trades.Trade.{Trade}
 use Rattle.amounts.specs.Trades.{contracts_of}
-use Rattle.settlement.specs.History.{History, Event, Amounts, Listed, Opened, Traded, Closed}
+use Rattle.settlement.specs.History.{History, Event, Amounts, Listed, Traded, Closed}
 use Rattle.settlement.specs.Lawful.{Lawful}
 use Rattle.settlement.specs.Moves.{InTime, TradesInTime}
 use Rattle.settlement.specs.Observed.{accounts_of, months_of, is_listed, expiry_at, rate_on, opened_days, latest_opened, open_session, next_from, session_day, trades_of, settlement_price}
@@ -18,7 +18,7 @@ use Rattle.settlement.proofs.Allowing.{open-on, trading, closing}
 use Rattle.settlement.proofs.Cells.{gain-none, trades-none}
 use Rattle.settlement.proofs.Order.{all_among, in_order}
 use Rattle.settlement.proofs.Expiring.{listed-stays, months-stay, listed-later, expiry-opened}
-use Rattle.settlement.proofs.Traded.{of-trades}
+use Rattle.settlement.proofs.EachTrade.{of-trades}
 
 pub in-time-stays : (w : World) (h : History) (e : Event) (day : ℕ) (t : Trade) → InTime w h day t → InTime w (e ∷ h) day t
 in-time-stays w h e day t i = (listed-stays h e t.month i.0, rw (months-stay w h e t.month i.0) i.1)

@@ -6,6 +6,7 @@ pub mod Caught
 pub mod Cells
 pub mod Dealt
 pub mod Dues
+pub mod EachTrade
 pub mod Edged
 pub mod Ended
 pub mod Exampled
@@ -13,6 +14,7 @@ pub mod Expiring
 pub mod Falling
 pub mod Gaps
 pub mod Limits
+pub mod MonthEnds
 pub mod Moving
 pub mod Order
 pub mod Priced
@@ -22,6 +24,5 @@ pub mod Scales
 pub mod Settling
 pub mod SheetRows
 pub mod Telescope
-pub mod Traded
 pub mod Unpaid
 pub mod Valuing

@@ -1,11 +1,9 @@
 -- What moves a position.
-use Rattle.std.proofs.Common.{◌≡◌, ℕ, ◌<◌, ◌≤◌, Bool, true, false, cond, ◌&&◌, eqb, ltb, leb, List, [], ◌∷◌, ◌++◌, length, pos, ◌+ℤ◌, None, sym, refl, ap, ◌∙◌, inl, inr, arith}
-use borrow.Author.Differences.{ints}
+use Rattle.std.proofs.Common.{◌≡◌, ℕ, ◌≤◌, Bool, true, false, cond, ◌&&◌, leb, [], ◌∷◌, ◌++◌, length, pos, ◌+ℤ◌, None, sym, refl, ap, ◌∙◌, inl, inr, arith}
 use Rattle.std.proofs.lemmas.List.{append-nil, length_push, get_or_push, get_or_append_left}
-use Rattle.std.proofs.lemmas.Bool.{true≢false, cases_lt, eqb-true, ltb-true, leb-false, lt-ltb, le-ltb}
+use Rattle.std.proofs.lemmas.Bool.{true≢false, cases_lt, ltb-true, leb-false, lt-ltb, le-ltb}
 use Rattle.amounts.specs.declared.trades.Trade.{Trade}
 use Rattle.amounts.specs.Trades.{contracts_of, position_change}
-use Rattle.amounts.proofs.Totals.{total-append}
 use Rattle.pricing.specs.Pricing.{expiry_day}
 use Rattle.settlement.specs.World.{World}
 use Rattle.settlement.specs.History.{History, Event, Amounts, Listed, Traded, Closed, traded, written, gather}
@@ -13,7 +11,7 @@ use Rattle.settlement.specs.Lawful.{Lawful}
 use Rattle.settlement.specs.Moves.{is_expired, PositionsMove}
 use Rattle.settlement.specs.Observed.{months_of, is_listed, expiry_at, latest_opened, next_from, session_day}
 use Rattle.settlement.specs.Positions.{has_ended, position_of}
-use Rattle.settlement.specs.Sessions.{Session, sessions_of, has_reached}
+use Rattle.settlement.specs.Sessions.{sessions_of, has_reached}
 use Rattle.settlement.proofs.Allowing.{trading, closing}
 use Rattle.settlement.proofs.Ended.{no-contracts}
 use Rattle.settlement.proofs.Expiring.{listed-later}

@@ -10,7 +10,7 @@ use Rattle.settlement.specs.Sessions.{sessions_of}
 use Rattle.settlement.specs.World.{World}
 use Rattle.settlement.proofs.Ended.{in-time, in-time-stays}
 use Rattle.settlement.proofs.Expiring.{month-stays}
-use Rattle.settlement.proofs.Traded.{of-trades}
+use Rattle.settlement.proofs.EachTrade.{of-trades}
 
 -- the number of a listed month stays, so the price of the rules does
 abbrev Rightly : World → History → ℕ → Trade → Type 0

@@ -8,6 +8,7 @@ use Rattle.settlement.proofs.Ended.{trades-in-time}
 use Rattle.settlement.proofs.Expiring.{expiry-met}
 use Rattle.settlement.proofs.Gaps.{gaps-rated}
 use Rattle.settlement.proofs.Limits.{positions-limited}
+use Rattle.settlement.proofs.MonthEnds.{ended-by}
 use Rattle.settlement.proofs.Moving.{positions-move}
 use Rattle.settlement.proofs.Order.{sessions-rise}
 use Rattle.settlement.proofs.Priced.{trades-priced}
@@ -33,7 +34,7 @@ returns-clause-laws c = record {
 }
 
 pub returns-clause-moves : goal.returns-clause-moves
-returns-clause-moves c = record { positions = positions-move; in_time = trades-in-time; priced = trades-priced }
+returns-clause-moves c = record { positions = positions-move; in_time = trades-in-time; priced = trades-priced; ended = ended-by }
 
 pub returns-clause-sheets : goal.returns-clause-sheets
 returns-clause-sheets c = sheet-rows
