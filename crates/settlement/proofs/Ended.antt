@@ -16,9 +16,9 @@ use Rattle.settlement.specs.Sessions.{Session, sessions_of, has_reached}
 use Rattle.settlement.specs.World.{World}
 use Rattle.settlement.proofs.Allowing.{open-on, trading, closing}
 use Rattle.settlement.proofs.Cells.{gain-none, trades-none}
+use Rattle.settlement.proofs.EachTrade.{of-trades}
 use Rattle.settlement.proofs.Order.{all_among, in_order}
 use Rattle.settlement.proofs.Expiring.{listed-stays, months-stay, listed-later, expiry-opened}
-use Rattle.settlement.proofs.EachTrade.{of-trades}
 
 pub in-time-stays : (w : World) (h : History) (e : Event) (day : ℕ) (t : Trade) → InTime w h day t → InTime w (e ∷ h) day t
 in-time-stays w h e day t i = (listed-stays h e t.month i.0, rw (months-stay w h e t.month i.0) i.1)

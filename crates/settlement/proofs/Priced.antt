@@ -8,9 +8,9 @@ use Rattle.settlement.specs.Moves.{InTime, AtPrice, TradesPriced}
 use Rattle.settlement.specs.Observed.{session_day, trades_of}
 use Rattle.settlement.specs.Sessions.{sessions_of}
 use Rattle.settlement.specs.World.{World}
+use Rattle.settlement.proofs.EachTrade.{of-trades}
 use Rattle.settlement.proofs.Ended.{in-time, in-time-stays}
 use Rattle.settlement.proofs.Expiring.{month-stays}
-use Rattle.settlement.proofs.EachTrade.{of-trades}
 
 -- the number of a listed month stays, so the price of the rules does
 abbrev Rightly : World → History → ℕ → Trade → Type 0
