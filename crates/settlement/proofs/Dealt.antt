@@ -1,20 +1,20 @@
 -- The trades accepted so far: their accounts and months are in the book, and they are few and small.
-use Rattle.std.proofs.Common.{◌≡◌, ℕ, ◌<◌, ◌≤◌, Bool, true, false, cond, List, [], ◌∷◌, ◌++◌, length, ℤ, pos, ◌+ℤ◌, is_some, Some, None, Option, sym, refl, ap, ◌∙◌, arith}
+use Rattle.std.proofs.Common.{◌≡◌, ℕ, ◌<◌, ◌≤◌, Bool, true, false, cond, List, [], ◌∷◌, ◌++◌, length, ℤ, pos, ◌+ℤ◌, is_some, None, Option, refl, ap, ◌∙◌, arith}
 use borrow.Author.Differences.{ints}
 use Rattle.std.specs.List.{AllByRecursion}
 use Rattle.std.proofs.lemmas.List.{append-nil, append_assoc, length-append, length_push}
 use Rattle.std.proofs.ByRecursion.{All-append, All-weaker}
-use Rattle.std.proofs.lemmas.Bool.{true≢false}
 use Rattle.amounts.specs.declared.trades.Trade.{Trade}
 use Rattle.amounts.specs.Sums.{total}
 use Rattle.amounts.proofs.Totals.{total-append}
 use Rattle.settlement.specs.World.{World}
-use Rattle.settlement.specs.History.{History, Event, Amounts, Entered, Opened, Traded, Closed, entered, listed, traded, written, is_opening, list_of, gather, since, before}
+use Rattle.settlement.specs.History.{History, Event, Entered, Opened, Traded, Closed, entered, listed, traded, list_of, gather, since, before}
 use Rattle.settlement.specs.Observed.{accounts_of, months_of, open_session, trades_of}
-use Rattle.settlement.specs.Sessions.{Session, added, sessions_of}
+use Rattle.settlement.specs.Sessions.{Session, sessions_of}
 use Rattle.settlement.specs.Lawful.{Accepts, Lawful}
 use Rattle.settlement.specs.Laws.{TradesFew}
 use Rattle.settlement.proofs.Allowing.{entering, opening, trading, closing}
+use Rattle.settlement.proofs.EachTrade.{of-latest, of-closed}
 
 -- what is told is told before an event of a kind or since it, where such an event tells nothing
 pub gather-split : {X : Type 0} (tells : Event → Option X) (kind : Event → Bool) → ((e : Event) → kind e ≡ true → tells e ≡ None)
@@ -26,19 +26,6 @@ gather-split tells kind silent (e ∷ h) = by (kind e) refl (gather-split tells 
         → gather tells h ++ list_of (tells e) ≡ gather tells (cond b h (before kind h)) ++ gather tells (cond b [] (e ∷ since kind h))
     by true k ih = rw (silent e k)
     by false k ih = ap (λ xs. xs ++ list_of (tells e)) ih ∙ append_assoc (gather tells (before kind h)) (gather tells (since kind h)) (list_of (tells e))
-
--- an opening is no trade
-opening-silent : (e : Event) → is_opening e ≡ true → traded e ≡ None
-opening-silent (Traded t) k = absurd (true≢false (sym k))
-opening-silent e k = refl
-
-all_right : {X : Type 0} (P : X → Type 0) (xs ys : List X) → AllByRecursion P (xs ++ ys) → AllByRecursion P ys
-all_right P [] ys h = h
-all_right P (x ∷ xs) ys h = all_right P xs ys h.1
-
--- what holds of all trades holds of the session's
-pub of-session : (P : Trade → Type 0) (h : History) → AllByRecursion P (gather traded h) → AllByRecursion P (trades_of h)
-of-session P h all = all_right P (gather traded (before is_opening h)) (trades_of h) (rw (gather-split traded is_opening opening-silent h) at all)
 
 -- a trade between accounts below n, in a month below k, of at most 20,000 contracts
 pub record Fits (n k : ℕ) (t : Trade) : Type 0 where
@@ -82,24 +69,12 @@ trades-fit w (e ∷ h) l =
     All-weaker (FitsIn h) (FitsIn (e ∷ h)) (fits-stays h e) (gather traded h ++ list_of (traded e))
     (All-append (FitsIn h) (gather traded h) (list_of (traded e)) (trades-fit w h l.1) (new-fits w h e l.0))
 
+-- and so do those of the latest session, and of each closed session
 pub session-fits : (w : World) (h : History) → Lawful w h → AllByRecursion (FitsIn h) (trades_of h)
-session-fits w h l = of-session (FitsIn h) h (trades-fit w h l)
+session-fits w h l = of-latest w (λ k d t. FitsIn k t) (λ k t a. (new-fits w k (Traded t) a.0).0) (λ k e d t. fits-stays k e t) h l
 
--- and so do those of each closed session
 pub closed-fit : (w : World) (h : History) → Lawful w h → AllByRecursion (λ s. AllByRecursion (FitsIn h) s.trades) (sessions_of w h)
-closed-fit w [] l = tt
-closed-fit w (e ∷ h) l = by (written e) (session-fits w h l.1) (closed-fit w h l.1)
-  where
-    stays : (ts : List Trade) → AllByRecursion (FitsIn h) ts → AllByRecursion (FitsIn (e ∷ h)) ts
-    stays ts f = All-weaker (FitsIn h) (FitsIn (e ∷ h)) (fits-stays h e) ts f
-
-    old : AllByRecursion (λ s. AllByRecursion (FitsIn h) s.trades) (sessions_of w h) → AllByRecursion (λ s. AllByRecursion (FitsIn (e ∷ h)) s.trades) (sessions_of w h)
-    old f = All-weaker (λ s. AllByRecursion (FitsIn h) s.trades) (λ s. AllByRecursion (FitsIn (e ∷ h)) s.trades) (λ s. stays s.trades) (sessions_of w h) f
-
-    by : (o : Option Amounts) → AllByRecursion (FitsIn h) (trades_of h) → AllByRecursion (λ s. AllByRecursion (FitsIn h) s.trades) (sessions_of w h)
-        → AllByRecursion (λ s. AllByRecursion (FitsIn (e ∷ h)) s.trades) (added w h o (sessions_of w h))
-    by None f g = old g
-    by (Some c) f g = (stays (trades_of h) f, old g)
+closed-fit w h l = of-closed w (λ k d t. FitsIn k t) (λ k t a. (new-fits w k (Traded t) a.0).0) (λ k e d t. fits-stays k e t) h l
 
 -- what the trades of a session that is open come to
 abbrev pub in_open : (Trade → ℤ) → History → ℤ

@@ -1,52 +1,43 @@
 -- After the last session of a month its adjustments are 0.
 use Rattle.std.proofs.Common.{◌≡◌, ℕ, ◌<◌, ◌≤◌, true, ◌⊎◌, List, [], ◌∷◌, ◌++◌, length, get_or, pos, Some, ap, ◌∙◌, inl, inr, arith}
 use Rattle.std.specs.List.{AllByRecursion}
-use Rattle.std.proofs.ByRecursion.{All-push, All-weaker}
+use Rattle.std.proofs.ByRecursion.{All-weaker}
 use Rattle.std.proofs.lemmas.List.{append-nil, length_push, get_or_push, get_or_append_left}
 use Rattle.std.proofs.lemmas.Bool.{cases_lt, lt-ltb, ne_eqb, and_from}
 use Rattle.pricing.specs.Pricing.{expiry_day}
 use Rattle.amounts.specs.declared.trades.Trade.{Trade}
 use Rattle.amounts.specs.Trades.{contracts_of}
-use Rattle.settlement.specs.History.{History, Event, Amounts, Listed, Opened, Traded, Closed}
+use Rattle.settlement.specs.History.{History, Event, Amounts, Listed, Traded, Closed}
 use Rattle.settlement.specs.Lawful.{Lawful}
+use Rattle.settlement.specs.Moves.{InTime, TradesInTime}
 use Rattle.settlement.specs.Observed.{accounts_of, months_of, is_listed, expiry_at, rate_on, opened_days, latest_opened, open_session, next_from, session_day, trades_of, settlement_price}
 use Rattle.settlement.specs.Positions.{has_ended, corrected_to, adjustment_at}
 use Rattle.settlement.specs.Sessions.{Session, sessions_of, has_reached}
 use Rattle.settlement.specs.World.{World}
 use Rattle.settlement.proofs.Allowing.{open-on, trading, closing}
 use Rattle.settlement.proofs.Cells.{gain-none, trades-none}
+use Rattle.settlement.proofs.EachTrade.{of-trades}
 use Rattle.settlement.proofs.Order.{all_among, in_order}
 use Rattle.settlement.proofs.Expiring.{listed-stays, months-stay, listed-later, expiry-opened}
 
--- a trade in a listed month, on a day before its expiry
-abbrev pub InTime : World → History → ℕ → Trade → Type 0
-InTime w h day t = (t.month < length (months_of h)) × (day < expiry_at w h t.month)
-
-in-time-stays : (w : World) (h : History) (e : Event) (day : ℕ) (t : Trade) → InTime w h day t → InTime w (e ∷ h) day t
+pub in-time-stays : (w : World) (h : History) (e : Event) (day : ℕ) (t : Trade) → InTime w h day t → InTime w (e ∷ h) day t
 in-time-stays w h e day t i = (listed-stays h e t.month i.0, rw (months-stay w h e t.month i.0) i.1)
 
-all_stay : (w : World) (h : History) (e : Event) → AllByRecursion (InTime w h (session_day h)) (trades_of h) → AllByRecursion (InTime w (e ∷ h) (session_day h)) (trades_of h)
-all_stay w h e a = All-weaker (InTime w h (session_day h)) (InTime w (e ∷ h) (session_day h)) (in-time-stays w h e (session_day h)) (trades_of h) a
+-- a trade that is accepted is in a month that expires after the session
+pub in-time : (w : World) (h : History) (t : Trade) → Lawful w (Traded t ∷ h) → InTime w h (session_day h) t
+in-time w h t l = let x = trading w h t l.0 in (x.month, rw x.session.day x.before-expiry)
 
--- the trades of the session are in months that expire after it
-pub trades-in-time : (w : World) (h : History) → Lawful w h → AllByRecursion (InTime w h (session_day h)) (trades_of h)
-trades-in-time w [] l = tt
-trades-in-time w (Opened d ∷ h) l = tt
-trades-in-time w (Traded t ∷ h) l =
-    let x = trading w h t l.0 in
-    let i : InTime w h (session_day h) t = (x.month, rw x.session.day x.before-expiry) in
-    All-push (InTime w (Traded t ∷ h) (session_day h)) (trades_of h) t
-    (all_stay w h (Traded t) (trades-in-time w h l.1)) (in-time-stays w h (Traded t) (session_day h) t i)
-trades-in-time w (e ∷ h) l = rw (append-nil (trades_of h)) (all_stay w h e (trades-in-time w h l.1))
+pub trades-in-time : TradesInTime
+trades-in-time w h l = of-trades w (InTime w) (in-time w) (in-time-stays w) h l
 
-no-contracts : (a m : ℕ) (t : Trade) → (t.month ≡ m → ⊥) → contracts_of a m t ≡ pos 0
+pub no-contracts : (a m : ℕ) (t : Trade) → (t.month ≡ m → ⊥) → contracts_of a m t ≡ pos 0
 no-contracts a m t n = rw (ne_eqb t.month m n)
 
 -- none is in a month that expires before it or on it
 pub other-months : (w : World) (h : History) (a m : ℕ) → Lawful w h → expiry_at w h m ≤ session_day h → AllByRecursion (λ t. contracts_of a m t ≡ pos 0) (trades_of h)
 other-months w h a m l b =
     All-weaker (InTime w h (session_day h)) (λ t. contracts_of a m t ≡ pos 0)
-    (λ t x. no-contracts a m t (λ e. let y = ap (expiry_at w h) e in omega (arith, x.1))) (trades_of h) (trades-in-time w h l)
+    (λ t x. no-contracts a m t (λ e. let y = ap (expiry_at w h) e in omega (arith, x.1))) (trades_of h) (trades-in-time w h l).1
 
 -- a month whose expiry is before the open session has expired
 pub expired-before : (w : World) (h : History) (m d : ℕ) → Lawful w h → open_session h ≡ Some d → m < length (months_of h) → expiry_at w h m < d

@@ -6,6 +6,7 @@ pub mod Caught
 pub mod Cells
 pub mod Dealt
 pub mod Dues
+pub mod EachTrade
 pub mod Edged
 pub mod Ended
 pub mod Exampled
@@ -16,7 +17,10 @@ pub mod Imports
 pub mod Late
 pub mod Limits
 pub mod Monthly
+pub mod MonthEnds
+pub mod Moving
 pub mod Order
+pub mod Priced
 pub mod Rated
 pub mod Reliance
 pub mod Scales

@@ -99,7 +99,7 @@ module _ (w : World) (m : ℕ) (months : List ℕ) (ss : List Session) (raw : �
       by false c = c
 
 -- a trade more
-one_more : (a m : ℕ) (ts : List Trade) (t : Trade) → position_change a m ts +ℤ contracts_of a m t ≡ position_change a m (ts ++ t ∷ [])
+pub one_more : (a m : ℕ) (ts : List Trade) (t : Trade) → position_change a m ts +ℤ contracts_of a m t ≡ position_change a m (ts ++ t ∷ [])
 one_more a m ts t = let e = total-append (contracts_of a m) ts (t ∷ []) in omega (arith, ints)
 
 -- an event that is no trade

@@ -17,3 +17,4 @@ pub mod Wrong
 pub mod Edges
 pub mod Busy
 pub mod Closing
+pub mod Moves

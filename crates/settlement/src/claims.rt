@@ -5,6 +5,7 @@ ghost use Rattle.settlement.specs.Edges.{EdgesHold};
 ghost use Rattle.settlement.specs.Examples.{RunHolds, FullHolds};
 ghost use Rattle.settlement.specs.Imports.{ImportsHold};
 ghost use Rattle.settlement.specs.Laws.{LawsHold};
+ghost use Rattle.settlement.specs.Moves.{MovesHold};
 ghost use Rattle.settlement.specs.Numbers.{RowsNumbered};
 ghost use Rattle.settlement.specs.Sheets.{SheetRows};
 ghost use Rattle.settlement.specs.Value.{AlwaysValued};
@@ -20,6 +21,7 @@ pub fn claims_hold()
 // faults are among them.
 pub fn laws_hold()
     ensures laws { LawsHold }
+    ensures moves { MovesHold }
     ensures rows { RowsNumbered }
     ensures edges { EdgesHold }
     ensures sheets { SheetRows }

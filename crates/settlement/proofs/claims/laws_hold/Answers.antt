@@ -4,12 +4,16 @@ use Rattle.settlement.proofs.Balancing.{positions-balance}
 use Rattle.settlement.proofs.Dealt.{trades-few}
 use Rattle.settlement.proofs.Dues.{dues-move, pays-latest, unpaid-stays}
 use Rattle.settlement.proofs.Edged.{edges-hold}
+use Rattle.settlement.proofs.Ended.{trades-in-time}
 use Rattle.settlement.proofs.Expiring.{expiry-met}
 use Rattle.settlement.proofs.Gaps.{gaps-rated}
 use Rattle.settlement.proofs.Imports.{imports-hold}
 use Rattle.settlement.proofs.Late.{late-carries-nothing}
 use Rattle.settlement.proofs.Limits.{positions-limited}
+use Rattle.settlement.proofs.MonthEnds.{ended-by}
+use Rattle.settlement.proofs.Moving.{positions-move}
 use Rattle.settlement.proofs.Order.{sessions-rise}
+use Rattle.settlement.proofs.Priced.{trades-priced}
 use Rattle.settlement.proofs.Rated.{rates-stay}
 use Rattle.settlement.proofs.SheetRows.{sheet-rows}
 use Rattle.settlement.proofs.Unpaid.{one-unpaid, closes-paid}
@@ -31,6 +35,9 @@ returns-clause-laws c = record {
   latest = pays-latest;
   dues = dues-move;
 }
+
+pub returns-clause-moves : goal.returns-clause-moves
+returns-clause-moves c = record { positions = positions-move; in_time = trades-in-time; priced = trades-priced; ended = ended-by }
 
 pub returns-clause-sheets : goal.returns-clause-sheets
 returns-clause-sheets c = sheet-rows

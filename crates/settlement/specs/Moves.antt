@@ -1,0 +1,63 @@
+-- More laws of lawful histories: what moves a position, what holds of the trades of every session, and when a month has ended.
+use Rattle.std.specs.Prelude.{◌≡◌, ℕ, ◌<◌, Bool, cond, ◌&&◌, ◌∷◌, length, pos, ◌+ℤ◌, Some, None, nat_le, nat_lt}
+use Rattle.std.specs.List.{AllByRecursion}
+use Rattle.interest.specs.Price.{trade_price}
+use Rattle.pricing.specs.Pricing.{days_to}
+use Rattle.amounts.specs.declared.trades.Trade.{Trade}
+use Rattle.amounts.specs.Trades.{contracts_of}
+use Rattle.settlement.specs.History.{History, Event, Amounts, Traded, Closed, traded, written}
+use Rattle.settlement.specs.Lawful.{Lawful}
+use Rattle.settlement.specs.Observed.{months_of, is_listed, month_at, expiry_at, session_day, open_session, trades_of}
+use Rattle.settlement.specs.Positions.{has_ended, position_of}
+use Rattle.settlement.specs.Sessions.{sessions_of}
+use Rattle.settlement.specs.World.{World}
+
+-- a listed month whose expiry is not after the latest session
+abbrev pub is_expired : World → History → ℕ → Bool
+is_expired w h m = is_listed h m && nat_le (expiry_at w h m) (session_day h)
+
+-- what moves a position
+pub record PositionsMove : Type 0 where
+  -- a trade adds its contracts
+  pub trade : (w : World) (h : History) (t : Trade) (a m : ℕ) → Lawful w (Traded t ∷ h) → position_of w (Traded t ∷ h) a m ≡ position_of w h a m +ℤ contracts_of a m t
+  -- a close leaves 0 where the month's expiry is not after it, else what there was
+  pub close : (w : World) (h : History) (c : Amounts) (a m : ℕ) → Lawful w (Closed c ∷ h)
+      → position_of w (Closed c ∷ h) a m ≡ cond (is_expired w h m) (pos 0) (position_of w h a m)
+  -- nothing else moves it
+  pub still : (w : World) (e : Event) (h : History) (a m : ℕ) → Lawful w (e ∷ h) → traded e ≡ None → written e ≡ None → position_of w (e ∷ h) a m ≡ position_of w h a m
+
+-- of each trade of each closed session, and of the latest session, with the day of its session
+abbrev pub OfTrades : World → History → (ℕ → Trade → Type 0) → Type 0
+OfTrades w h P = AllByRecursion (λ s. AllByRecursion (P s.day) s.trades) (sessions_of w h) × AllByRecursion (P (session_day h)) (trades_of h)
+
+-- a trade in a listed month, on a day before its expiry
+abbrev pub InTime : World → History → ℕ → Trade → Type 0
+InTime w h day t = (t.month < length (months_of h)) × (day < expiry_at w h t.month)
+
+-- a trade at the price that the rules give on the day
+abbrev pub AtPrice : World → History → ℕ → Trade → Type 0
+AtPrice w h day t = t.price ≡ trade_price t.rate (days_to w.kinds day (month_at h t.month))
+
+-- trades are in listed months, and their sessions before the expiry
+abbrev pub TradesInTime : Type 0
+TradesInTime = (w : World) (h : History) → Lawful w h → OfTrades w h (InTime w h)
+
+-- trades have the prices of their sessions' days
+abbrev pub TradesPriced : Type 0
+TradesPriced = (w : World) (h : History) → Lawful w h → OfTrades w h (AtPrice w h)
+
+-- when a listed month has ended
+pub record EndedBy : Type 0 where
+  -- while a session is open: if its expiry is before the session
+  pub during : (w : World) (h : History) (d m : ℕ) → Lawful w h → open_session h ≡ Some d → m < length (months_of h)
+      → has_ended w h m ≡ nat_lt (expiry_at w h m) d
+  -- while none is: if its expiry is not after the latest session, and so not before the first, when that day is 0
+  pub between : (w : World) (h : History) (m : ℕ) → Lawful w h → open_session h ≡ None → m < length (months_of h)
+      → has_ended w h m ≡ nat_le (expiry_at w h m) (session_day h)
+
+-- all of them
+pub record MovesHold : Type 0 where
+  pub positions : PositionsMove
+  pub in_time : TradesInTime
+  pub priced : TradesPriced
+  pub ended : EndedBy
