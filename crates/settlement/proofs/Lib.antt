@@ -19,6 +19,7 @@ pub mod Reliance
 pub mod Scales
 pub mod Settling
 pub mod SheetRows
+pub mod Sizes
 pub mod Telescope
 pub mod Unpaid
 pub mod Valuing

@@ -9,6 +9,7 @@ pub mod Sheets
 pub mod Numbers
 pub mod Lawful
 pub mod Laws
+pub mod Limits
 pub mod Balance
 pub mod Value
 pub mod Examples

@@ -4,6 +4,7 @@ ghost use Rattle.settlement.specs.Busy.{BusyHolds};
 ghost use Rattle.settlement.specs.Edges.{EdgesHold};
 ghost use Rattle.settlement.specs.Examples.{RunHolds, FullHolds};
 ghost use Rattle.settlement.specs.Laws.{LawsHold};
+ghost use Rattle.settlement.specs.Limits.{LimitsHold};
 ghost use Rattle.settlement.specs.Numbers.{RowsNumbered};
 ghost use Rattle.settlement.specs.Sheets.{SheetRows};
 ghost use Rattle.settlement.specs.Value.{AlwaysValued};
@@ -19,6 +20,7 @@ pub fn claims_hold()
 // faults are among them.
 pub fn laws_hold()
     ensures laws { LawsHold }
+    ensures limits { LimitsHold }
     ensures rows { RowsNumbered }
     ensures edges { EdgesHold }
     ensures sheets { SheetRows }

@@ -10,6 +10,7 @@ use Rattle.settlement.proofs.Limits.{positions-limited}
 use Rattle.settlement.proofs.Order.{sessions-rise}
 use Rattle.settlement.proofs.Rated.{rates-stay}
 use Rattle.settlement.proofs.SheetRows.{sheet-rows}
+use Rattle.settlement.proofs.Sizes.{tables-limited}
 use Rattle.settlement.proofs.Unpaid.{one-unpaid, closes-paid}
 
 pub returns-clause-laws : goal.returns-clause-laws
@@ -28,6 +29,9 @@ returns-clause-laws c = record {
   latest = pays-latest;
   dues = dues-move;
 }
+
+pub returns-clause-limits : goal.returns-clause-limits
+returns-clause-limits c = record { tables = tables-limited }
 
 pub returns-clause-sheets : goal.returns-clause-sheets
 returns-clause-sheets c = sheet-rows
