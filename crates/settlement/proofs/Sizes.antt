@@ -1,16 +1,22 @@
 -- How large tables, trades and prices get.
 use Rattle.std.proofs.Common.{ℕ, ◌<◌, ◌≤◌, [], ◌∷◌, length, arith}
-use Rattle.std.proofs.ByRecursion.{All-weaker}
+use Rattle.std.specs.List.{AllByRecursion}
+use Rattle.std.proofs.ByRecursion.{All-push, All-weaker}
 use Rattle.std.proofs.lemmas.List.{append-nil, length_push}
-use Rattle.std.proofs.lemmas.Bool.{leb-false}
+use Rattle.std.proofs.lemmas.Bool.{leb-false, ltb-false}
+use Rattle.std.proofs.lemmas.Bool.Decides.{nat_tests}
+use Rattle.pricing.specs.Pricing.{days_to}
+use Rattle.interest.proofs.Bounds.{trade-price-least, trade-price-most}
+use Rattle.amounts.specs.declared.trades.Trade.{Trade}
 use Rattle.settlement.specs.World.{World}
-use Rattle.settlement.specs.History.{History, Listed}
-use Rattle.settlement.specs.Observed.{months_of, trades_of}
-use Rattle.settlement.specs.Rows.{list_rows}
+use Rattle.settlement.specs.History.{History, Listed, Traded, traded, gather}
+use Rattle.settlement.specs.Observed.{months_of, month_at, session_day, trades_of}
+use Rattle.settlement.specs.Rows.{list_rows, trade_rows}
 use Rattle.settlement.specs.Lawful.{Accepts, Lawful}
-use Rattle.settlement.specs.Limits.{TablesLimited, TradesLimited}
+use Rattle.settlement.specs.Limits.{TablesLimited, TradesLimited, PricesLimited}
 use Rattle.settlement.proofs.Allowing.{none-hold}
 use Rattle.settlement.proofs.Dealt.{FitsIn, accounts-few, session-fits, trades-few}
+use Rattle.settlement.proofs.Reliance.{price-limited, prices-limited}
 
 listing-few : (w : World) (h : History) (n : ℕ) → Accepts w h (Listed n) → length (months_of h) < 16
 listing-few w h n l = leb-false 16 (length (months_of h)) (none-hold (list_rows w h n) l).0
@@ -29,3 +35,21 @@ trades-limited w h l = record {
   few = trades-few w h l;
   small = All-weaker (FitsIn h) (λ t. t.quantity ≤ 20000) (λ t f. f.small) (trades_of h) (session-fits w h l);
 }
+
+-- the price of a trade
+abbrev pub PricedWithin : Trade → Type 0
+PricedWithin t = (1 ≤ t.price) × (t.price ≤ 10000000)
+
+new-price : (w : World) (h : History) (t : Trade) → Accepts w h (Traded t) → PricedWithin t
+new-price w h t l =
+    let r = none-hold (trade_rows w h l.0.0 t) l.0.1 in
+    let n = days_to w.kinds (session_day h) (month_at h t.month) in
+    rw l.1 (trade-price-least t.rate n (grind (arith, nat_tests, r.1.1.1.1.1.0)) (ltb-false 2520 n r.1.1.1.1.1.1.0), trade-price-most t.rate n)
+
+pub trades-priced : (w : World) (h : History) → Lawful w h → AllByRecursion PricedWithin (gather traded h)
+trades-priced w [] l = tt
+trades-priced w (Traded t ∷ h) l = All-push PricedWithin (gather traded h) t (trades-priced w h l.1) (new-price w h t l.0)
+trades-priced w (e ∷ h) l = rw (append-nil (gather traded h)) (trades-priced w h l.1)
+
+pub prices-within : PricesLimited
+prices-within w h l = record { session = price-limited w h l; closed = prices-limited w h l; dealt = trades-priced w h l }

@@ -1,9 +1,11 @@
 -- How large things get in lawful histories.
 use Rattle.std.specs.Prelude.{ℕ, ◌≤◌, length}
+use Rattle.std.specs.List.{AllByRecursion}
 use Rattle.amounts.specs.Trades.{Limited}
-use Rattle.settlement.specs.History.{History}
+use Rattle.settlement.specs.History.{History, traded, gather}
 use Rattle.settlement.specs.Lawful.{Lawful}
-use Rattle.settlement.specs.Observed.{accounts_of, months_of, trades_of}
+use Rattle.settlement.specs.Observed.{accounts_of, months_of, trades_of, settlement_price}
+use Rattle.settlement.specs.Sessions.{sessions_of}
 use Rattle.settlement.specs.World.{World}
 
 -- at most 32 accounts and 16 months
@@ -14,7 +16,20 @@ TablesLimited = (w : World) (h : History) → Lawful w h → (length (accounts_o
 abbrev pub TradesLimited : Type 0
 TradesLimited = (w : World) (h : History) → Lawful w h → Limited (trades_of h)
 
+-- settlement prices are at most 10,000,000, the prices of trades from 1 to 10,000,000
+pub record PricesWithin (w : World) (h : History) : Type 0 where
+  -- of the latest session, by month
+  pub session : (m : ℕ) → settlement_price w h m ≤ 10000000
+  -- of the closed sessions
+  pub closed : AllByRecursion (λ s. (m : ℕ) → s.prices m ≤ 10000000) (sessions_of w h)
+  -- of all trades so far
+  pub dealt : AllByRecursion (λ t. (1 ≤ t.price) × (t.price ≤ 10000000)) (gather traded h)
+
+abbrev pub PricesLimited : Type 0
+PricesLimited = (w : World) (h : History) → Lawful w h → PricesWithin w h
+
 -- all of them
 pub record LimitsHold : Type 0 where
   pub tables : TablesLimited
   pub trades : TradesLimited
+  pub prices : PricesLimited

@@ -10,7 +10,7 @@ use Rattle.settlement.proofs.Limits.{positions-limited}
 use Rattle.settlement.proofs.Order.{sessions-rise}
 use Rattle.settlement.proofs.Rated.{rates-stay}
 use Rattle.settlement.proofs.SheetRows.{sheet-rows}
-use Rattle.settlement.proofs.Sizes.{tables-limited, trades-limited}
+use Rattle.settlement.proofs.Sizes.{tables-limited, trades-limited, prices-within}
 use Rattle.settlement.proofs.Unpaid.{one-unpaid, closes-paid}
 
 pub returns-clause-laws : goal.returns-clause-laws
@@ -31,7 +31,7 @@ returns-clause-laws c = record {
 }
 
 pub returns-clause-limits : goal.returns-clause-limits
-returns-clause-limits c = record { tables = tables-limited; trades = trades-limited }
+returns-clause-limits c = record { tables = tables-limited; trades = trades-limited; prices = prices-within }
 
 pub returns-clause-sheets : goal.returns-clause-sheets
 returns-clause-sheets c = sheet-rows
