@@ -4,6 +4,7 @@ pub mod Balancing
 pub mod Busied
 pub mod Caught
 pub mod Cells
+pub mod Days
 pub mod Dealt
 pub mod Dues
 pub mod Edged

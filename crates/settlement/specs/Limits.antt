@@ -1,10 +1,11 @@
 -- How large things get in lawful histories.
-use Rattle.std.specs.Prelude.{ℕ, ◌≤◌, length}
+use Rattle.std.specs.Prelude.{◌≡◌, ℕ, ◌≤◌, true, length}
 use Rattle.std.specs.List.{AllByRecursion}
+use Rattle.calendar.specs.Kinds.{is_session}
 use Rattle.amounts.specs.Trades.{Limited}
 use Rattle.settlement.specs.History.{History, traded, gather}
 use Rattle.settlement.specs.Lawful.{Lawful}
-use Rattle.settlement.specs.Observed.{accounts_of, months_of, trades_of, settlement_price}
+use Rattle.settlement.specs.Observed.{accounts_of, months_of, opened_days, trades_of, settlement_price}
 use Rattle.settlement.specs.Sessions.{sessions_of}
 use Rattle.settlement.specs.World.{World}
 
@@ -28,8 +29,13 @@ pub record PricesWithin (w : World) (h : History) : Type 0 where
 abbrev pub PricesLimited : Type 0
 PricesLimited = (w : World) (h : History) → Lawful w h → PricesWithin w h
 
+-- each opened day is a session day of the calendar
+abbrev pub OpenedSessions : Type 0
+OpenedSessions = (w : World) (h : History) → Lawful w h → AllByRecursion (λ d. is_session (w.kinds d) ≡ true) (opened_days h)
+
 -- all of them
 pub record LimitsHold : Type 0 where
   pub tables : TablesLimited
   pub trades : TradesLimited
   pub prices : PricesLimited
+  pub opened : OpenedSessions

@@ -1,6 +1,7 @@
 use Rattle.settlement.proofs.claims.laws_hold.Goals as goal
 use Rattle.settlement.proofs.Apart.{months-apart}
 use Rattle.settlement.proofs.Balancing.{positions-balance}
+use Rattle.settlement.proofs.Days.{opened-sessions}
 use Rattle.settlement.proofs.Dealt.{trades-few}
 use Rattle.settlement.proofs.Dues.{dues-move, pays-latest, unpaid-stays}
 use Rattle.settlement.proofs.Edged.{edges-hold}
@@ -31,7 +32,12 @@ returns-clause-laws c = record {
 }
 
 pub returns-clause-limits : goal.returns-clause-limits
-returns-clause-limits c = record { tables = tables-limited; trades = trades-limited; prices = prices-within }
+returns-clause-limits c = record {
+  tables = tables-limited;
+  trades = trades-limited;
+  prices = prices-within;
+  opened = opened-sessions;
+}
 
 pub returns-clause-sheets : goal.returns-clause-sheets
 returns-clause-sheets c = sheet-rows
