@@ -1,12 +1,12 @@
 -- How large things get in lawful histories.
-use Rattle.std.specs.Prelude.{◌≡◌, ℕ, ◌≤◌, true, length}
+use Rattle.std.specs.Prelude.{◌≡◌, ℕ, ◌<◌, ◌≤◌, true, length, Some, None}
 use Rattle.std.specs.List.{AllByRecursion}
 use Rattle.calendar.specs.Kinds.{is_session}
 use Rattle.amounts.specs.Trades.{Limited}
 use Rattle.settlement.specs.History.{History, traded, gather}
 use Rattle.settlement.specs.Lawful.{Lawful}
-use Rattle.settlement.specs.Observed.{accounts_of, months_of, opened_days, trades_of, settlement_price}
-use Rattle.settlement.specs.Sessions.{sessions_of}
+use Rattle.settlement.specs.Observed.{accounts_of, months_of, opened_days, latest_opened, open_session, trades_of, settlement_price}
+use Rattle.settlement.specs.Sessions.{sessions_of, latest_closed}
 use Rattle.settlement.specs.World.{World}
 
 -- at most 32 accounts and 16 months
@@ -33,9 +33,16 @@ PricesLimited = (w : World) (h : History) → Lawful w h → PricesWithin w h
 abbrev pub OpenedSessions : Type 0
 OpenedSessions = (w : World) (h : History) → Lawful w h → AllByRecursion (λ d. is_session (w.kinds d) ≡ true) (opened_days h)
 
+-- while none is open the latest closed session is the latest opened; while one is open each closed session is before it
+abbrev pub ClosedDays : Type 0
+ClosedDays = (w : World) (h : History) → Lawful w h
+    → (open_session h ≡ None → latest_closed w h ≡ latest_opened h)
+    × ((d : ℕ) → open_session h ≡ Some d → AllByRecursion (λ s. s.day < d) (sessions_of w h))
+
 -- all of them
 pub record LimitsHold : Type 0 where
   pub tables : TablesLimited
   pub trades : TradesLimited
   pub prices : PricesLimited
   pub opened : OpenedSessions
+  pub closed : ClosedDays

@@ -1,7 +1,7 @@
 use Rattle.settlement.proofs.claims.laws_hold.Goals as goal
 use Rattle.settlement.proofs.Apart.{months-apart}
 use Rattle.settlement.proofs.Balancing.{positions-balance}
-use Rattle.settlement.proofs.Days.{opened-sessions}
+use Rattle.settlement.proofs.Days.{closed-days, opened-sessions}
 use Rattle.settlement.proofs.Dealt.{trades-few}
 use Rattle.settlement.proofs.Dues.{dues-move, pays-latest, unpaid-stays}
 use Rattle.settlement.proofs.Edged.{edges-hold}
@@ -37,6 +37,7 @@ returns-clause-limits c = record {
   trades = trades-limited;
   prices = prices-within;
   opened = opened-sessions;
+  closed = closed-days;
 }
 
 pub returns-clause-sheets : goal.returns-clause-sheets
