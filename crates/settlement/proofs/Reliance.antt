@@ -22,6 +22,7 @@ use Rattle.settlement.specs.Observed.{months_of, is_listed, expiry_at, rate_on, 
 use Rattle.settlement.specs.Sessions.{Session, added, sessions_of, latest_closed, has_reached, gap_to}
 use Rattle.settlement.specs.Positions.{has_ended, contracts_in, position_of, carried_of, corrected_to}
 use Rattle.settlement.specs.Lawful.{Lawful}
+pub use Rattle.settlement.specs.Limits.{RatesLimited}
 use Rattle.settlement.proofs.Allowing.{open-on, marking, opening, closing}
 use Rattle.settlement.proofs.Dealt.{dealt-split}
 use Rattle.settlement.proofs.Cells.{total-none}
@@ -139,10 +140,6 @@ days-add price (g ∷ gs) b p =
 
 pub corrected-small : (price : ℕ) (gs : List ℕ) → price ≤ 10000000 → AllByRecursion (λ g. g ≤ 100275437) gs → length gs ≤ 60 → corrected price gs ≤ 13305340
 corrected-small price gs p b n = let k = days-add price gs b (omega arith) in omega arith
-
--- no rate is over 99,999,999
-abbrev pub RatesLimited : (ℕ → Option ℕ) → Type 0
-RatesLimited rates = (d r : ℕ) → rates d ≡ Some r → r ≤ 99999999
 
 -- the factor of a day, and those of days
 factor-small : (rates : ℕ → Option ℕ) → RatesLimited rates → (d : ℕ) → factor_on rates d ≤ 100275437

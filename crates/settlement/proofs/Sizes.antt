@@ -1,19 +1,20 @@
--- How large tables, trades and prices get.
-use Rattle.std.proofs.Common.{ℕ, ◌<◌, ◌≤◌, [], ◌∷◌, length, arith}
+-- How large tables, trades, prices and rates get.
+use Rattle.std.proofs.Common.{◌≡◌, ℕ, ◌<◌, ◌≤◌, Bool, true, false, cond, eqb, [], ◌∷◌, length, Some, None, arith}
 use Rattle.std.specs.List.{AllByRecursion}
 use Rattle.std.proofs.ByRecursion.{All-push, All-weaker}
 use Rattle.std.proofs.lemmas.List.{append-nil, length_push}
 use Rattle.std.proofs.lemmas.Bool.{leb-false, ltb-false}
 use Rattle.std.proofs.lemmas.Bool.Decides.{nat_tests}
 use Rattle.pricing.specs.Pricing.{days_to}
+use Rattle.rates.specs.Layers.{or_else}
 use Rattle.interest.proofs.Bounds.{trade-price-least, trade-price-most}
 use Rattle.amounts.specs.declared.trades.Trade.{Trade}
 use Rattle.settlement.specs.World.{World}
-use Rattle.settlement.specs.History.{History, Listed, Traded, traded, gather}
-use Rattle.settlement.specs.Observed.{months_of, month_at, session_day, trades_of}
-use Rattle.settlement.specs.Rows.{list_rows, trade_rows}
+use Rattle.settlement.specs.History.{History, Listed, Published, Arbitrated, Traded, rated, traded, gather, newest}
+use Rattle.settlement.specs.Observed.{months_of, month_at, rate_on, session_day, trades_of}
+use Rattle.settlement.specs.Rows.{list_rows, publish_rows, arbitrate_rows, trade_rows}
 use Rattle.settlement.specs.Lawful.{Accepts, Lawful}
-use Rattle.settlement.specs.Limits.{TablesLimited, TradesLimited, PricesLimited}
+use Rattle.settlement.specs.Limits.{TablesLimited, TradesLimited, PricesLimited, RatesLimited, RatesStayLimited}
 use Rattle.settlement.proofs.Allowing.{none-hold}
 use Rattle.settlement.proofs.Dealt.{FitsIn, accounts-few, session-fits, trades-few}
 use Rattle.settlement.proofs.Reliance.{price-limited, prices-limited}
@@ -53,3 +54,20 @@ trades-priced w (e ∷ h) l = rw (append-nil (gather traded h)) (trades-priced w
 
 pub prices-within : PricesLimited
 prices-within w h l = record { session = price-limited w h l; closed = prices-limited w h l; dealt = trades-priced w h l }
+
+-- a rate that a day is given, or else what it had
+given-limited : (w : World) (h : History) (x y d r : ℕ) → y ≤ 99999999 → RatesLimited (rate_on w h)
+    → or_else (or_else (cond (eqb d x) (Some y) None) (newest (rated d) h)) (w.rates d) ≡ Some r → r ≤ 99999999
+given-limited w h x y d r small old e = by (eqb d x) e
+  where
+    by : (b : Bool) → or_else (or_else (cond b (Some y) None) (newest (rated d) h)) (w.rates d) ≡ Some r → r ≤ 99999999
+    by true e = let q : y ≡ r = cc in omega arith
+    by false e = old d r e
+
+pub rates-stay-limited : RatesStayLimited
+rates-stay-limited w [] b l d r = b d r
+rates-stay-limited w (Published x y ∷ h) b l d r =
+    given-limited w h x y d r (ltb-false 99999999 y (none-hold (publish_rows w h x y 1) l.0).1.1.0) (rates-stay-limited w h b l.1)
+rates-stay-limited w (Arbitrated x y ∷ h) b l d r =
+    given-limited w h x y d r (ltb-false 99999999 y (none-hold (arbitrate_rows w h x y) l.0).1.1.0) (rates-stay-limited w h b l.1)
+rates-stay-limited w (e ∷ h) b l d r = rates-stay-limited w h b l.1 d r

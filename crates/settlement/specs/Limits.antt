@@ -1,11 +1,11 @@
 -- How large things get in lawful histories.
-use Rattle.std.specs.Prelude.{◌≡◌, ℕ, ◌<◌, ◌≤◌, true, length, Some, None}
+use Rattle.std.specs.Prelude.{◌≡◌, ℕ, ◌<◌, ◌≤◌, true, length, Some, None, Option}
 use Rattle.std.specs.List.{AllByRecursion}
 use Rattle.calendar.specs.Kinds.{is_session}
 use Rattle.amounts.specs.Trades.{Limited}
 use Rattle.settlement.specs.History.{History, traded, gather}
 use Rattle.settlement.specs.Lawful.{Lawful}
-use Rattle.settlement.specs.Observed.{accounts_of, months_of, opened_days, latest_opened, open_session, trades_of, settlement_price}
+use Rattle.settlement.specs.Observed.{accounts_of, months_of, rate_on, opened_days, latest_opened, open_session, trades_of, settlement_price}
 use Rattle.settlement.specs.Sessions.{sessions_of, latest_closed}
 use Rattle.settlement.specs.World.{World}
 
@@ -39,6 +39,14 @@ ClosedDays = (w : World) (h : History) → Lawful w h
     → (open_session h ≡ None → latest_closed w h ≡ latest_opened h)
     × ((d : ℕ) → open_session h ≡ Some d → AllByRecursion (λ s. s.day < d) (sessions_of w h))
 
+-- no rate is over 99,999,999
+abbrev pub RatesLimited : (ℕ → Option ℕ) → Type 0
+RatesLimited rates = (d r : ℕ) → rates d ≡ Some r → r ≤ 99999999
+
+-- over a world in which none is, none ever is
+abbrev pub RatesStayLimited : Type 0
+RatesStayLimited = (w : World) (h : History) → RatesLimited w.rates → Lawful w h → RatesLimited (rate_on w h)
+
 -- all of them
 pub record LimitsHold : Type 0 where
   pub tables : TablesLimited
@@ -46,3 +54,4 @@ pub record LimitsHold : Type 0 where
   pub prices : PricesLimited
   pub opened : OpenedSessions
   pub closed : ClosedDays
+  pub rates : RatesStayLimited

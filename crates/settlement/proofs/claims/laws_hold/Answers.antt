@@ -11,7 +11,7 @@ use Rattle.settlement.proofs.Limits.{positions-limited}
 use Rattle.settlement.proofs.Order.{sessions-rise}
 use Rattle.settlement.proofs.Rated.{rates-stay}
 use Rattle.settlement.proofs.SheetRows.{sheet-rows}
-use Rattle.settlement.proofs.Sizes.{tables-limited, trades-limited, prices-within}
+use Rattle.settlement.proofs.Sizes.{tables-limited, trades-limited, prices-within, rates-stay-limited}
 use Rattle.settlement.proofs.Unpaid.{one-unpaid, closes-paid}
 
 pub returns-clause-laws : goal.returns-clause-laws
@@ -38,6 +38,7 @@ returns-clause-limits c = record {
   prices = prices-within;
   opened = opened-sessions;
   closed = closed-days;
+  rates = rates-stay-limited;
 }
 
 pub returns-clause-sheets : goal.returns-clause-sheets
