@@ -21,6 +21,7 @@ pub mod Scales
 pub mod Settling
 pub mod SheetRows
 pub mod Sizes
+pub mod Sums
 pub mod Telescope
 pub mod Unpaid
 pub mod Valuing

@@ -153,14 +153,18 @@ factors-small : (rates : ℕ → Option ℕ) → RatesLimited rates → (days : 
 factors-small rates b [] = tt
 factors-small rates b (d ∷ days) = (factor-small rates b d, factors-small rates b days)
 
--- the latest settlement price, corrected to the open session, fits in 32 bits
-pub corrected-fits : (w : World) (h : History) (d : ℕ) → Lawful w h → open_session h ≡ Some d → RatesLimited (rate_on w h) → (m : ℕ)
-    → corrected_to w (rate_on w h) d (sessions_of w h) m < 2 ^ 32
-corrected-fits w h d l o b m = by (sessions_of w h) (prices-limited w h l) (gap-short w h d l o)
+-- how much the latest settlement price, corrected to the open session, is at most
+pub corrected-most : (w : World) (h : History) (d : ℕ) → Lawful w h → open_session h ≡ Some d → RatesLimited (rate_on w h) → (m : ℕ)
+    → corrected_to w (rate_on w h) d (sessions_of w h) m ≤ 13305340
+corrected-most w h d l o b m = by (sessions_of w h) (prices-limited w h l) (gap-short w h d l o)
   where
-    by : (ss : List Session) → AllByRecursion (λ s. (m : ℕ) → s.prices m ≤ 10000000) ss → length (gap_to w d ss) ≤ 60 → corrected_to w (rate_on w h) d ss m < 2 ^ 32
+    by : (ss : List Session) → AllByRecursion (λ s. (m : ℕ) → s.prices m ≤ 10000000) ss → length (gap_to w d ss) ≤ 60 → corrected_to w (rate_on w h) d ss m ≤ 13305340
     by [] p n = omega arith
     by (s ∷ ss) p n =
         let days = reserve_days w.kinds s.day d in
-        let k = corrected-small (s.prices m) (factors (rate_on w h) days) (p.0 m) (factors-small (rate_on w h) b days) (rw (length-map days (factor_on (rate_on w h))) n) in
-        omega arith
+        corrected-small (s.prices m) (factors (rate_on w h) days) (p.0 m) (factors-small (rate_on w h) b days) (rw (length-map days (factor_on (rate_on w h))) n)
+
+-- it fits in 32 bits
+pub corrected-fits : (w : World) (h : History) (d : ℕ) → Lawful w h → open_session h ≡ Some d → RatesLimited (rate_on w h) → (m : ℕ)
+    → corrected_to w (rate_on w h) d (sessions_of w h) m < 2 ^ 32
+corrected-fits w h d l o b m = omega (arith, corrected-most w h d l o b m)

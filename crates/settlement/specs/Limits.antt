@@ -1,11 +1,12 @@
 -- How large things get in lawful histories.
-use Rattle.std.specs.Prelude.{◌≡◌, ℕ, ◌<◌, ◌≤◌, true, length, Some, None, Option}
+use Rattle.std.specs.Prelude.{◌≡◌, ℕ, ◌<◌, ◌≤◌, true, length, Some, None, Option, unsigned_abs}
 use Rattle.std.specs.List.{AllByRecursion}
 use Rattle.calendar.specs.Kinds.{is_session}
 use Rattle.amounts.specs.Trades.{Limited}
-use Rattle.settlement.specs.History.{History, traded, gather}
+use Rattle.settlement.specs.History.{History, Amounts, traded, written, gather}
 use Rattle.settlement.specs.Lawful.{Lawful}
 use Rattle.settlement.specs.Observed.{accounts_of, months_of, rate_on, opened_days, latest_opened, open_session, trades_of, settlement_price}
+use Rattle.settlement.specs.Positions.{written_for}
 use Rattle.settlement.specs.Sessions.{sessions_of, latest_closed}
 use Rattle.settlement.specs.World.{World}
 
@@ -47,6 +48,15 @@ RatesLimited rates = (d r : ℕ) → rates d ≡ Some r → r ≤ 99999999
 abbrev pub RatesStayLimited : Type 0
 RatesStayLimited = (w : World) (h : History) → RatesLimited w.rates → Lawful w h → RatesLimited (rate_on w h)
 
+-- what a close wrote for an account, in a month and over all months
+pub record AmountsWithin (c : Amounts) : Type 0 where
+  pub each : (a m : ℕ) → unsigned_abs (c.adjustments a m) ≤ 60000000000000
+  pub together : (a : ℕ) → unsigned_abs (written_for a c) ≤ 160000000000000
+
+-- of every close, over such a world
+abbrev pub AmountsLimited : Type 0
+AmountsLimited = (w : World) (h : History) → RatesLimited w.rates → Lawful w h → AllByRecursion AmountsWithin (gather written h)
+
 -- all of them
 pub record LimitsHold : Type 0 where
   pub tables : TablesLimited
@@ -55,3 +65,4 @@ pub record LimitsHold : Type 0 where
   pub opened : OpenedSessions
   pub closed : ClosedDays
   pub rates : RatesStayLimited
+  pub amounts : AmountsLimited

@@ -12,6 +12,7 @@ use Rattle.settlement.proofs.Order.{sessions-rise}
 use Rattle.settlement.proofs.Rated.{rates-stay}
 use Rattle.settlement.proofs.SheetRows.{sheet-rows}
 use Rattle.settlement.proofs.Sizes.{tables-limited, trades-limited, prices-within, rates-stay-limited}
+use Rattle.settlement.proofs.Sums.{amounts-limited}
 use Rattle.settlement.proofs.Unpaid.{one-unpaid, closes-paid}
 
 pub returns-clause-laws : goal.returns-clause-laws
@@ -39,6 +40,7 @@ returns-clause-limits c = record {
   opened = opened-sessions;
   closed = closed-days;
   rates = rates-stay-limited;
+  amounts = amounts-limited;
 }
 
 pub returns-clause-sheets : goal.returns-clause-sheets
