@@ -1,10 +1,11 @@
--- How large adjustments get: of an account in a month, and over all months.
-use Rattle.std.proofs.Common.{◌≡◌, ℕ, ◌+◌, ◌*◌, ◌<◌, ◌≤◌, Bool, true, false, cond, eqb, List, [], ◌∷◌, length, ℤ, pos, ◌-ℤ◌, nat_abs, Some, count_by, refl, mul-le-mul_left, arith}
+-- How large adjustments get, of an account in a month and over all months, and what is due and paid.
+use Rattle.std.proofs.Common.{◌≡◌, ℕ, ◌+◌, ◌*◌, ◌<◌, ◌≤◌, Bool, true, false, cond, eqb, List, [], ◌∷◌, length, ℤ, pos, ◌-ℤ◌, nat_abs, Some, count_by, refl, mul-le-mul_left, ap, arith}
 use mathlib.Core.Path.{fun_ext}
 use borrow.Author.Differences.{ints}
 use Rattle.std.specs.List.{AllByRecursion}
 use Rattle.std.proofs.ByRecursion.{All-append}
 use Rattle.std.proofs.lemmas.Bool.{eqb-true, agree_below_at}
+use Rattle.std.proofs.lemmas.List.{append-nil, length_push}
 use Rattle.std.proofs.lemmas.List.Sums.{sum_by-cons, count_by-le-length}
 use Rattle.interest.proofs.Ring.{abs-mul}
 use Rattle.amounts.specs.declared.trades.Trade.{Trade}
@@ -16,17 +17,19 @@ use Rattle.amounts.proofs.Bounds.{contracts-size}
 use Rattle.amounts.proofs.Totals.{total_size, total-sum, total-zero}
 use Rattle.settlement.specs.Accounts.{month_indices}
 use Rattle.settlement.specs.World.{World}
-use Rattle.settlement.specs.History.{History, Event, Amounts, Closed, written, list_of, gather}
+use Rattle.settlement.specs.History.{History, Event, Amounts, Closed, Paid, written, list_of, gather}
 use Rattle.settlement.specs.Lawful.{Lawful}
-use Rattle.settlement.specs.Limits.{RatesLimited, AmountsWithin, AmountsLimited}
+use Rattle.settlement.specs.Limits.{RatesLimited, AmountsWithin, AmountsLimited, DuesLimited}
 use Rattle.settlement.specs.Observed.{months_of, rate_on, session_day, open_session, trades_of, settlement_price}
-use Rattle.settlement.specs.Positions.{carried_of, corrected_to, adjustment_at}
+use Rattle.settlement.specs.Positions.{carried_of, corrected_to, adjustment_at, written_for, due_of}
 use Rattle.settlement.specs.Sessions.{sessions_of}
 use Rattle.settlement.proofs.Allowing.{open-on, closing}
 use Rattle.settlement.proofs.Cells.{cells}
 use Rattle.settlement.proofs.Dealt.{FitsIn, of-session, session-fits, trades-few}
+use Rattle.settlement.proofs.Dues.{dues-move}
 use Rattle.settlement.proofs.Reliance.{price-limited, corrected-most, carried-limited}
 use Rattle.settlement.proofs.Sizes.{PricedWithin, months-few, trades-priced, rates-stay-limited}
+use Rattle.settlement.proofs.Unpaid.{closes-paid}
 
 -- contracts between prices up to k
 gain-most : (z : ℤ) (a b k : ℕ) → a ≤ k → b ≤ k → nat_abs (gain_of z a b) ≤ nat_abs z * k
@@ -137,3 +140,27 @@ new-within w h e b l = tt
 pub amounts-limited : AmountsLimited
 amounts-limited w [] b l = tt
 amounts-limited w (e ∷ h) b l = All-append AmountsWithin (gather written h) (list_of (written e)) (amounts-limited w h b l.1) (new-within w h e b l)
+
+-- a close finds nothing due
+pub nothing-due : (w : World) (h : History) (c : Amounts) (a : ℕ) → Lawful w (Closed c ∷ h) → due_of h a ≡ pos 0
+nothing-due w h c a l = ap (total (written_for a)) (closes-paid w h c l)
+
+pub dues-limited : DuesLimited
+dues-limited w [] a b l = record { due = omega (arith, ints); together = omega (arith, ints) }
+dues-limited w (Closed c ∷ h) a b l =
+    let x = (close-within w h c b l).together a in
+    let k = (dues-limited w h a b l.1).together in
+    let z = nothing-due w h c a l in
+    let m = dues-move.closed h c a in
+    record {
+      due = rw m.0 (omega (arith, ints));
+      together = rw (m.0, m.1, length_push (gather written h) c) (omega (arith, ints));
+    }
+dues-limited w (Paid ∷ h) a b l =
+    let k = (dues-limited w h a b l.1).together in
+    let m = (dues-move.paid h a).1 in
+    record { due = omega (arith, ints); together = rw (m, append-nil (gather written h)) (omega (arith, ints)) }
+dues-limited w (e ∷ h) a b l =
+    let k = dues-limited w h a b l.1 in
+    let m = dues-move.still e h a refl refl in
+    record { due = rw m.0 k.due; together = rw (m.0, m.1, append-nil (gather written h)) k.together }

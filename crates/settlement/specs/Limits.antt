@@ -1,12 +1,12 @@
 -- How large things get in lawful histories.
-use Rattle.std.specs.Prelude.{◌≡◌, ℕ, ◌<◌, ◌≤◌, true, length, Some, None, Option, unsigned_abs}
+use Rattle.std.specs.Prelude.{◌≡◌, ℕ, ◌+◌, ◌*◌, ◌<◌, ◌≤◌, true, length, Some, None, Option, unsigned_abs}
 use Rattle.std.specs.List.{AllByRecursion}
 use Rattle.calendar.specs.Kinds.{is_session}
 use Rattle.amounts.specs.Trades.{Limited}
 use Rattle.settlement.specs.History.{History, Amounts, traded, written, gather}
 use Rattle.settlement.specs.Lawful.{Lawful}
 use Rattle.settlement.specs.Observed.{accounts_of, months_of, rate_on, opened_days, latest_opened, open_session, trades_of, settlement_price}
-use Rattle.settlement.specs.Positions.{written_for}
+use Rattle.settlement.specs.Positions.{written_for, due_of, paid_of}
 use Rattle.settlement.specs.Sessions.{sessions_of, latest_closed}
 use Rattle.settlement.specs.World.{World}
 
@@ -57,6 +57,16 @@ pub record AmountsWithin (c : Amounts) : Type 0 where
 abbrev pub AmountsLimited : Type 0
 AmountsLimited = (w : World) (h : History) → RatesLimited w.rates → Lawful w h → AllByRecursion AmountsWithin (gather written h)
 
+-- due and paid of an account
+pub record DuesWithin (h : History) (a : ℕ) : Type 0 where
+  -- what is due is of one close
+  pub due : unsigned_abs (due_of h a) ≤ 160000000000000
+  -- paid and due together are of all closes
+  pub together : unsigned_abs (paid_of h a) + unsigned_abs (due_of h a) ≤ length (gather written h) * 160000000000000
+
+abbrev pub DuesLimited : Type 0
+DuesLimited = (w : World) (h : History) (a : ℕ) → RatesLimited w.rates → Lawful w h → DuesWithin h a
+
 -- all of them
 pub record LimitsHold : Type 0 where
   pub tables : TablesLimited
@@ -66,3 +76,4 @@ pub record LimitsHold : Type 0 where
   pub closed : ClosedDays
   pub rates : RatesStayLimited
   pub amounts : AmountsLimited
+  pub dues : DuesLimited
