@@ -5,7 +5,7 @@ use Rattle.calendar.specs.Kinds.{is_session}
 use Rattle.amounts.specs.Trades.{Limited}
 use Rattle.settlement.specs.History.{History, Amounts, traded, written, gather}
 use Rattle.settlement.specs.Lawful.{Lawful}
-use Rattle.settlement.specs.Observed.{accounts_of, months_of, rate_on, opened_days, latest_opened, open_session, trades_of, settlement_price}
+use Rattle.settlement.specs.Observed.{accounts_of, months_of, rate_on, opened_days, latest_opened, session_day, open_session, trades_of, settlement_price}
 use Rattle.settlement.specs.Positions.{written_for, due_of, paid_of}
 use Rattle.settlement.specs.Sessions.{sessions_of, latest_closed}
 use Rattle.settlement.specs.World.{World}
@@ -67,6 +67,10 @@ pub record DuesWithin (h : History) (a : ℕ) : Type 0 where
 abbrev pub DuesLimited : Type 0
 DuesLimited = (w : World) (h : History) (a : ℕ) → RatesLimited w.rates → Lawful w h → DuesWithin h a
 
+-- no more closes than days up to the latest session, included; its day is 0 before the first
+abbrev pub ClosesFew : Type 0
+ClosesFew = (w : World) (h : History) → Lawful w h → length (gather written h) ≤ session_day h + 1
+
 -- all of them
 pub record LimitsHold : Type 0 where
   pub tables : TablesLimited
@@ -77,3 +81,4 @@ pub record LimitsHold : Type 0 where
   pub rates : RatesStayLimited
   pub amounts : AmountsLimited
   pub dues : DuesLimited
+  pub closes : ClosesFew

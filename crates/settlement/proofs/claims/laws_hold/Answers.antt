@@ -1,7 +1,7 @@
 use Rattle.settlement.proofs.claims.laws_hold.Goals as goal
 use Rattle.settlement.proofs.Apart.{months-apart}
 use Rattle.settlement.proofs.Balancing.{positions-balance}
-use Rattle.settlement.proofs.Days.{closed-days, opened-sessions}
+use Rattle.settlement.proofs.Days.{closed-days, closes-few, opened-sessions}
 use Rattle.settlement.proofs.Dealt.{trades-few}
 use Rattle.settlement.proofs.Dues.{dues-move, pays-latest, unpaid-stays}
 use Rattle.settlement.proofs.Edged.{edges-hold}
@@ -42,6 +42,7 @@ returns-clause-limits c = record {
   rates = rates-stay-limited;
   amounts = amounts-limited;
   dues = dues-limited;
+  closes = closes-few;
 }
 
 pub returns-clause-sheets : goal.returns-clause-sheets
