@@ -1,9 +1,12 @@
 -- The days of sessions, opened and closed, and how many were closed.
-use Rattle.std.proofs.Common.{◌≡◌, ℕ, ◌+◌, ◌<◌, ◌≤◌, true, List, [], ◌∷◌, ◌++◌, length, Some, None, Option, sym, refl, ap, ◌∙◌, arith}
+use Rattle.std.proofs.Common.{◌≡◌, ℕ, ◌+◌, ◌<◌, ◌≤◌, true, List, [], ◌∷◌, ◌++◌, length, Some, None, Option, sym, refl, ap, ◌∙◌, inl, inr, unwrap_or, arith}
 use Rattle.std.specs.List.{AllByRecursion}
 use Rattle.std.proofs.ByRecursion.{All-push, All-weaker}
+use Rattle.std.proofs.lemmas.Bool.{true≢false, cases_lt}
 use Rattle.std.proofs.lemmas.List.{append-nil, length_push}
+use Rattle.calendar.specs.declared.kind.DayKind.TheVariants.{Closed as closed_day}
 use Rattle.calendar.specs.Kinds.{is_session}
+use Rattle.calendar.proofs.Spans.{past-last}
 use Rattle.settlement.specs.World.{World}
 use Rattle.settlement.specs.History.{History, Amounts, Opened, Closed, written, list_of, gather}
 use Rattle.settlement.specs.Lawful.{Lawful}
@@ -48,3 +51,15 @@ falling-few d (s ∷ ss) f b = let k = falling-few s.day ss f.1 f.0 in let n = b
 
 pub closes-few : ClosesFew
 closes-few w h l = rw (closes-sessions w h) (falling-few (session_day h + 1) (sessions_of w h) (falling w h l) (closed-by w h l))
+
+-- on a calendar no session is after day 36,524
+pub session-bound : (w : World) (h : History) → ((d : ℕ) → 36524 < d → w.kinds d ≡ closed_day) → Lawful w h → session_day h ≤ 36524
+session-bound w h ends l = by (latest_opened h) (in_order w h l).on-session
+  where
+    by : (o : Option ℕ) → ((d : ℕ) → o ≡ Some d → is_session (w.kinds d) ≡ true) → unwrap_or o 0 ≤ 36524
+    by None s = omega arith
+    by (Some d) s =
+        elim (cases_lt 36524 d) [
+          | inl b ↦ absurd (true≢false (sym (s d refl) ∙ past-last w.kinds ends is_session refl d (omega arith)))
+          | inr b ↦ b
+        ]

@@ -19,12 +19,13 @@ use Rattle.settlement.specs.Accounts.{month_indices}
 use Rattle.settlement.specs.World.{World}
 use Rattle.settlement.specs.History.{History, Event, Amounts, Closed, Paid, written, list_of, gather}
 use Rattle.settlement.specs.Lawful.{Lawful}
-use Rattle.settlement.specs.Limits.{RatesLimited, AmountsWithin, AmountsLimited, DuesLimited}
+use Rattle.settlement.specs.Limits.{RatesLimited, AmountsWithin, AmountsLimited, DuesLimited, DuesFit}
 use Rattle.settlement.specs.Observed.{months_of, rate_on, session_day, open_session, trades_of, settlement_price}
 use Rattle.settlement.specs.Positions.{carried_of, corrected_to, adjustment_at, written_for, due_of}
 use Rattle.settlement.specs.Sessions.{sessions_of}
 use Rattle.settlement.proofs.Allowing.{open-on, closing}
 use Rattle.settlement.proofs.Cells.{cells}
+use Rattle.settlement.proofs.Days.{closes-few, session-bound}
 use Rattle.settlement.proofs.Dealt.{FitsIn, of-session, session-fits, trades-few}
 use Rattle.settlement.proofs.Dues.{dues-move}
 use Rattle.settlement.proofs.Reliance.{price-limited, corrected-most, carried-limited}
@@ -164,3 +165,10 @@ dues-limited w (e ∷ h) a b l =
     let k = dues-limited w h a b l.1 in
     let m = dues-move.still e h a refl refl in
     record { due = rw m.0 k.due; together = rw (m.0, m.1, append-nil (gather written h)) k.together }
+
+pub dues-fit : DuesFit
+dues-fit w h a b ends l =
+    let k = (dues-limited w h a b l).together in
+    let n = closes-few w h l in
+    let d = session-bound w h ends l in
+    omega arith

@@ -1,6 +1,7 @@
 -- How large things get in lawful histories.
-use Rattle.std.specs.Prelude.{◌≡◌, ℕ, ◌+◌, ◌*◌, ◌<◌, ◌≤◌, true, length, Some, None, Option, unsigned_abs}
+use Rattle.std.specs.Prelude.{◌≡◌, ℕ, ◌+◌, ◌*◌, ◌^◌, ◌<◌, ◌≤◌, true, length, Some, None, Option, unsigned_abs}
 use Rattle.std.specs.List.{AllByRecursion}
+use Rattle.calendar.specs.declared.kind.DayKind.TheVariants.{Closed}
 use Rattle.calendar.specs.Kinds.{is_session}
 use Rattle.amounts.specs.Trades.{Limited}
 use Rattle.settlement.specs.History.{History, Amounts, traded, written, gather}
@@ -71,6 +72,11 @@ DuesLimited = (w : World) (h : History) (a : ℕ) → RatesLimited w.rates → L
 abbrev pub ClosesFew : Type 0
 ClosesFew = (w : World) (h : History) → Lawful w h → length (gather written h) ≤ session_day h + 1
 
+-- on a calendar, which is closed from day 36,525 on, due and paid fit in 64 bits
+abbrev pub DuesFit : Type 0
+DuesFit = (w : World) (h : History) (a : ℕ) → RatesLimited w.rates → ((d : ℕ) → 36524 < d → w.kinds d ≡ Closed) → Lawful w h
+    → unsigned_abs (paid_of h a) + unsigned_abs (due_of h a) < 2 ^ 63
+
 -- all of them
 pub record LimitsHold : Type 0 where
   pub tables : TablesLimited
@@ -82,3 +88,4 @@ pub record LimitsHold : Type 0 where
   pub amounts : AmountsLimited
   pub dues : DuesLimited
   pub closes : ClosesFew
+  pub fit : DuesFit

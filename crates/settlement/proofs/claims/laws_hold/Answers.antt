@@ -12,7 +12,7 @@ use Rattle.settlement.proofs.Order.{sessions-rise}
 use Rattle.settlement.proofs.Rated.{rates-stay}
 use Rattle.settlement.proofs.SheetRows.{sheet-rows}
 use Rattle.settlement.proofs.Sizes.{tables-limited, trades-limited, prices-within, rates-stay-limited}
-use Rattle.settlement.proofs.Sums.{amounts-limited, dues-limited}
+use Rattle.settlement.proofs.Sums.{amounts-limited, dues-fit, dues-limited}
 use Rattle.settlement.proofs.Unpaid.{one-unpaid, closes-paid}
 
 pub returns-clause-laws : goal.returns-clause-laws
@@ -43,6 +43,7 @@ returns-clause-limits c = record {
   amounts = amounts-limited;
   dues = dues-limited;
   closes = closes-few;
+  fit = dues-fit;
 }
 
 pub returns-clause-sheets : goal.returns-clause-sheets
