@@ -45,24 +45,24 @@ ClosedDays = (w : World) (h : History) → Lawful w h
 abbrev pub RatesLimited : (ℕ → Option ℕ) → Type 0
 RatesLimited rates = (d r : ℕ) → rates d ≡ Some r → r ≤ 99999999
 
--- over a world in which none is, none ever is
+-- over a world of such rates there is never another
 abbrev pub RatesStayLimited : Type 0
 RatesStayLimited = (w : World) (h : History) → RatesLimited w.rates → Lawful w h → RatesLimited (rate_on w h)
 
--- what a close wrote for an account, in a month and over all months
+-- what a close wrote for an account, in each month and in all months together
 pub record AmountsWithin (c : Amounts) : Type 0 where
   pub each : (a m : ℕ) → unsigned_abs (c.adjustments a m) ≤ 60000000000000
   pub together : (a : ℕ) → unsigned_abs (written_for a c) ≤ 160000000000000
 
--- of every close, over such a world
+-- so of every close, over a world of such rates
 abbrev pub AmountsLimited : Type 0
 AmountsLimited = (w : World) (h : History) → RatesLimited w.rates → Lawful w h → AllByRecursion AmountsWithin (gather written h)
 
 -- due and paid of an account
 pub record DuesWithin (h : History) (a : ℕ) : Type 0 where
-  -- what is due is of one close
+  -- what is due is of one close at most
   pub due : unsigned_abs (due_of h a) ≤ 160000000000000
-  -- paid and due together are of all closes
+  -- paid and due are of all closes together
   pub together : unsigned_abs (paid_of h a) + unsigned_abs (due_of h a) ≤ length (gather written h) * 160000000000000
 
 abbrev pub DuesLimited : Type 0

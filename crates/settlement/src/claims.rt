@@ -16,8 +16,8 @@ pub fn claims_hold()
     ensures valued { AlwaysValued }
 {}
 
-// The laws of lawful histories, and the rows of the calls: their numbers in order, and what a sheet's
-// faults are among them.
+// The laws of lawful histories, how large things get in them, and the rows of the calls: their numbers
+// in order, and what a sheet's faults are among them.
 pub fn laws_hold()
     ensures laws { LawsHold }
     ensures limits { LimitsHold }
