@@ -4,6 +4,7 @@ pub mod Balancing
 pub mod Busied
 pub mod Caught
 pub mod Cells
+pub mod Days
 pub mod Dealt
 pub mod Dues
 pub mod EachTrade
@@ -26,6 +27,8 @@ pub mod Reliance
 pub mod Scales
 pub mod Settling
 pub mod SheetRows
+pub mod Sizes
+pub mod Sums
 pub mod Telescope
 pub mod Unpaid
 pub mod Valuing

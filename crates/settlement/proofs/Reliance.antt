@@ -18,10 +18,11 @@ use Rattle.amounts.specs.Trades.{contracts_of, position_change}
 use Rattle.rates.specs.Layers.{or_else}
 use Rattle.settlement.specs.World.{World}
 use Rattle.settlement.specs.History.{History, Amounts, Listed, Opened, Marked, Closed, traded, written, gather}
-use Rattle.settlement.specs.Observed.{months_of, is_listed, expiry_at, latest_opened, session_day, open_session, next_from, trades_of, mark_of, settlement_price}
+use Rattle.settlement.specs.Observed.{months_of, is_listed, expiry_at, rate_on, latest_opened, session_day, open_session, next_from, trades_of, mark_of, settlement_price}
 use Rattle.settlement.specs.Sessions.{Session, added, sessions_of, latest_closed, has_reached, gap_to}
-use Rattle.settlement.specs.Positions.{has_ended, contracts_in, position_of, carried_of}
+use Rattle.settlement.specs.Positions.{has_ended, contracts_in, position_of, carried_of, corrected_to}
 use Rattle.settlement.specs.Lawful.{Lawful}
+pub use Rattle.settlement.specs.Limits.{RatesLimited}
 use Rattle.settlement.proofs.Allowing.{open-on, marking, opening, closing}
 use Rattle.settlement.proofs.Dealt.{dealt-split}
 use Rattle.settlement.proofs.Cells.{total-none}
@@ -140,10 +141,6 @@ days-add price (g ∷ gs) b p =
 pub corrected-small : (price : ℕ) (gs : List ℕ) → price ≤ 10000000 → AllByRecursion (λ g. g ≤ 100275437) gs → length gs ≤ 60 → corrected price gs ≤ 13305340
 corrected-small price gs p b n = let k = days-add price gs b (omega arith) in omega arith
 
--- no rate is over 99,999,999
-abbrev pub RatesLimited : (ℕ → Option ℕ) → Type 0
-RatesLimited rates = (d r : ℕ) → rates d ≡ Some r → r ≤ 99999999
-
 -- the factor of a day, and those of days
 factor-small : (rates : ℕ → Option ℕ) → RatesLimited rates → (d : ℕ) → factor_on rates d ≤ 100275437
 factor-small rates b d = by (rates d) refl
@@ -156,10 +153,23 @@ factors-small : (rates : ℕ → Option ℕ) → RatesLimited rates → (days : 
 factors-small rates b [] = tt
 factors-small rates b (d ∷ days) = (factor-small rates b d, factors-small rates b days)
 
--- a price of at most 10,000,000, corrected over a short gap, fits in 32 bits
+-- a price of at most 10,000,000, corrected over a short gap
+pub corrected-most : (kinds : ℕ → DayKind) (rates : ℕ → Option ℕ) → RatesLimited rates → (from to price : ℕ) → length (reserve_days kinds from to) ≤ 60 → price ≤ 10000000
+    → corrected_price kinds rates from to price ≤ 13305340
+corrected-most kinds rates b from to price n p =
+    let days = reserve_days kinds from to in
+    corrected-small price (factors rates days) p (factors-small rates b days) (rw (length-map days (factor_on rates)) n)
+
+-- it fits in 32 bits
 pub corrected-fits : (kinds : ℕ → DayKind) (rates : ℕ → Option ℕ) → RatesLimited rates → (from to price : ℕ) → length (reserve_days kinds from to) ≤ 60 → price ≤ 10000000
     → corrected_price kinds rates from to price < 2 ^ 32
-corrected-fits kinds rates b from to price n p =
-    let days = reserve_days kinds from to in
-    let k = corrected-small price (factors rates days) p (factors-small rates b days) (rw (length-map days (factor_on rates)) n) in
-    omega arith
+corrected-fits kinds rates b from to price n p = omega (arith, corrected-most kinds rates b from to price n p)
+
+-- the latest settlement price, corrected to the open session
+pub latest-most : (w : World) (h : History) (d : ℕ) → Lawful w h → open_session h ≡ Some d → RatesLimited (rate_on w h) → (m : ℕ)
+    → corrected_to w (rate_on w h) d (sessions_of w h) m ≤ 13305340
+latest-most w h d l o b m = by (sessions_of w h) (prices-limited w h l) (gap-short w h d l o)
+  where
+    by : (ss : List Session) → AllByRecursion (λ s. (m : ℕ) → s.prices m ≤ 10000000) ss → length (gap_to w d ss) ≤ 60 → corrected_to w (rate_on w h) d ss m ≤ 13305340
+    by [] p n = omega arith
+    by (s ∷ ss) p n = corrected-most w.kinds (rate_on w h) b s.day d (s.prices m) n (p.0 m)

@@ -10,6 +10,7 @@ pub mod Numbers
 pub mod Imports
 pub mod Lawful
 pub mod Laws
+pub mod Limits
 pub mod Balance
 pub mod Value
 pub mod Examples

@@ -5,6 +5,7 @@ ghost use Rattle.settlement.specs.Edges.{EdgesHold};
 ghost use Rattle.settlement.specs.Examples.{RunHolds, FullHolds};
 ghost use Rattle.settlement.specs.Imports.{ImportsHold};
 ghost use Rattle.settlement.specs.Laws.{LawsHold};
+ghost use Rattle.settlement.specs.Limits.{LimitsHold};
 ghost use Rattle.settlement.specs.Moves.{MovesHold};
 ghost use Rattle.settlement.specs.Numbers.{RowsNumbered};
 ghost use Rattle.settlement.specs.Sheets.{SheetRows};
@@ -17,11 +18,12 @@ pub fn claims_hold()
     ensures valued { AlwaysValued }
 {}
 
-// The laws of lawful histories, and the rows of the calls: their numbers in order, and what a sheet's
-// faults are among them.
+// The laws of lawful histories, what moves in them and how large it gets; the rows of the calls, by
+// their numbers, at their edges and against the faults of sheets; what an import comes to.
 pub fn laws_hold()
     ensures laws { LawsHold }
     ensures moves { MovesHold }
+    ensures limits { LimitsHold }
     ensures rows { RowsNumbered }
     ensures edges { EdgesHold }
     ensures sheets { SheetRows }

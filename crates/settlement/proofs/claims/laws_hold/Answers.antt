@@ -1,6 +1,7 @@
 use Rattle.settlement.proofs.claims.laws_hold.Goals as goal
 use Rattle.settlement.proofs.Apart.{months-apart}
 use Rattle.settlement.proofs.Balancing.{positions-balance}
+use Rattle.settlement.proofs.Days.{closed-days, closes-few, opened-sessions}
 use Rattle.settlement.proofs.Dealt.{trades-few}
 use Rattle.settlement.proofs.Dues.{dues-move, pays-latest, unpaid-stays}
 use Rattle.settlement.proofs.Edged.{edges-hold}
@@ -16,6 +17,8 @@ use Rattle.settlement.proofs.Order.{sessions-rise}
 use Rattle.settlement.proofs.Priced.{trades-priced}
 use Rattle.settlement.proofs.Rated.{rates-stay}
 use Rattle.settlement.proofs.SheetRows.{sheet-rows}
+use Rattle.settlement.proofs.Sizes.{tables-limited, trades-limited, prices-within, rates-stay-limited}
+use Rattle.settlement.proofs.Sums.{amounts-limited, dues-fit, dues-limited}
 use Rattle.settlement.proofs.Unpaid.{one-unpaid, closes-paid}
 
 pub returns-clause-laws : goal.returns-clause-laws
@@ -38,6 +41,20 @@ returns-clause-laws c = record {
 
 pub returns-clause-moves : goal.returns-clause-moves
 returns-clause-moves c = record { positions = positions-move; in_time = trades-in-time; priced = trades-priced; ended = ended-by }
+
+pub returns-clause-limits : goal.returns-clause-limits
+returns-clause-limits c = record {
+  tables = tables-limited;
+  trades = trades-limited;
+  prices = prices-within;
+  opened = opened-sessions;
+  closed = closed-days;
+  rates = rates-stay-limited;
+  amounts = amounts-limited;
+  dues = dues-limited;
+  closes = closes-few;
+  fit = dues-fit;
+}
 
 pub returns-clause-sheets : goal.returns-clause-sheets
 returns-clause-sheets c = sheet-rows
