@@ -12,7 +12,6 @@ use Rattle.settlement.specs.History.{History, Event, Entered, Opened, Traded, Cl
 use Rattle.settlement.specs.Observed.{accounts_of, months_of, open_session, trades_of}
 use Rattle.settlement.specs.Sessions.{Session, sessions_of}
 use Rattle.settlement.specs.Lawful.{Accepts, Lawful}
-use Rattle.settlement.specs.Laws.{TradesFew}
 use Rattle.settlement.proofs.Allowing.{entering, opening, trading, closing}
 use Rattle.settlement.proofs.EachTrade.{of-latest, of-closed}
 
@@ -51,7 +50,8 @@ accounts-few w [] l = omega arith
 accounts-few w (Entered x ∷ h) l = let r = entering w h x l.0 in rw (length_push (accounts_of h) x) (omega arith)
 accounts-few w (e ∷ h) l = rw (append-nil (accounts_of h)) (accounts-few w h l.1)
 
-pub trades-few : TradesFew
+-- the trades of a session are few
+pub trades-few : (w : World) (h : History) → Lawful w h → length (trades_of h) ≤ 256
 trades-few w [] l = omega arith
 trades-few w (Opened d ∷ h) l = omega arith
 trades-few w (Traded t ∷ h) l = let r = (trading w h t l.0).few in rw (length_push (trades_of h) t) (omega arith)

@@ -12,7 +12,8 @@ use Rattle.settlement.specs.History.{History, Event, Amounts, Closed, written, i
 use Rattle.settlement.specs.Positions.{written_for, due_of}
 use Rattle.settlement.specs.Sessions.{latest_closed}
 use Rattle.settlement.specs.Lawful.{Lawful}
-use Rattle.settlement.specs.Laws.{UnpaidStays, PaysLatest, DuesMove}
+use Rattle.settlement.specs.Laws.{UnpaidStays, PaysLatest}
+use Rattle.settlement.specs.Moves.{DuesMove}
 use Rattle.settlement.proofs.Allowing.{paying}
 use Rattle.settlement.proofs.Balancing.{all-written}
 use Rattle.settlement.proofs.Unpaid.{one-unpaid, closes-paid}

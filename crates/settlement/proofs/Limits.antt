@@ -13,7 +13,7 @@ use Rattle.settlement.specs.History.{History, Listed, Traded, Closed, traded, ga
 use Rattle.settlement.specs.Observed.{months_of}
 use Rattle.settlement.specs.Sessions.{Session, closed_with, sessions_of, has_reached}
 use Rattle.settlement.specs.Positions.{has_ended, position_of}
-use Rattle.settlement.specs.Laws.{PositionsLimited}
+use Rattle.settlement.specs.Limits.{PositionsLimited}
 use Rattle.settlement.proofs.Allowing.{trading}
 use Rattle.settlement.proofs.Order.{falling}
 

@@ -1,5 +1,5 @@
 -- Laws of lawful histories.
-use Rattle.std.specs.Prelude.{◌≡◌, ℕ, ◌+◌, ◌<◌, ◌≤◌, true, false, [], ◌∷◌, ◌++◌, length, pos, ◌+ℤ◌, is_some, Some, None, nat_eq, unsigned_abs}
+use Rattle.std.specs.Prelude.{◌≡◌, ℕ, ◌+◌, ◌<◌, ◌≤◌, true, false, [], ◌∷◌, ◌++◌, length, pos, is_some, Some, None, nat_eq}
 use Rattle.std.specs.List.{AllByRecursion}
 use Rattle.calendar.specs.Kinds.{is_session}
 use Rattle.calendar.specs.Spans.{reserve_days, First}
@@ -7,10 +7,10 @@ use Rattle.correction.specs.Gaps.{first_unrated}
 use Rattle.pricing.specs.Pricing.{distance}
 use Rattle.amounts.specs.Sums.{total}
 use Rattle.settlement.specs.Accounts.{account_indices, is_among}
-use Rattle.settlement.specs.History.{History, Event, Amounts, Opened, Closed, Paid, written, is_payment, is_close, gather, newest, since, before}
+use Rattle.settlement.specs.History.{History, Amounts, Opened, Closed, Paid, written, is_payment, is_close, gather, newest, since, before}
 use Rattle.settlement.specs.Lawful.{Lawful}
-use Rattle.settlement.specs.Observed.{months_of, month_at, expiry_at, rate_on, opened_days, latest_opened, open_session, next_from, trades_of}
-use Rattle.settlement.specs.Positions.{position_of, carried_of, written_for, due_of, paid_of}
+use Rattle.settlement.specs.Observed.{months_of, month_at, expiry_at, rate_on, opened_days, latest_opened, open_session, next_from}
+use Rattle.settlement.specs.Positions.{position_of, carried_of, written_for, due_of}
 use Rattle.settlement.specs.Sessions.{sessions_of, oldest_day, newest_day}
 use Rattle.settlement.specs.World.{World}
 
@@ -27,14 +27,6 @@ RatesStay = (w : World) (k h : History) (d r : ℕ) → Lawful w (k ++ h) → ra
 -- the positions of a month add to zero over the accounts
 abbrev pub PositionsBalance : Type 0
 PositionsBalance = (w : World) (h : History) (m : ℕ) → Lawful w h → total (λ a. position_of w h a m) account_indices ≡ pos 0
-
--- no position passes 500,000 contracts
-abbrev pub PositionsLimited : Type 0
-PositionsLimited = (w : World) (h : History) (a m : ℕ) → Lawful w h → unsigned_abs (position_of w h a m) ≤ 500000
-
--- a session has at most 256 trades
-abbrev pub TradesFew : Type 0
-TradesFew = (w : World) (h : History) → Lawful w h → length (trades_of h) ≤ 256
 
 -- the expiry of a listed month is a session day, and no session on it or after it is opened unless it was opened itself
 abbrev pub ExpiryMet : Type 0
@@ -68,15 +60,6 @@ UnpaidStays = (w : World) (k h : History) → Lawful w (k ++ h) → is_some (new
 abbrev pub PaysLatest : Type 0
 PaysLatest = (w : World) (h : History) (c : Amounts) → Lawful w (Paid ∷ h) → newest written h ≡ Some c → (a : ℕ) → due_of h a ≡ written_for a c
 
--- what moves due and paid, in every history
-pub record DuesMove : Type 0 where
-  -- a close adds what it wrote to what is due
-  pub closed : (h : History) (c : Amounts) (a : ℕ) → (due_of (Closed c ∷ h) a ≡ due_of h a +ℤ written_for a c) × (paid_of (Closed c ∷ h) a ≡ paid_of h a)
-  -- a payment moves all that is due to what is paid
-  pub paid : (h : History) (a : ℕ) → (due_of (Paid ∷ h) a ≡ pos 0) × (paid_of (Paid ∷ h) a ≡ paid_of h a +ℤ due_of h a)
-  -- nothing else moves either
-  pub still : (e : Event) (h : History) (a : ℕ) → written e ≡ None → is_payment e ≡ false → (due_of (e ∷ h) a ≡ due_of h a) × (paid_of (e ∷ h) a ≡ paid_of h a)
-
 -- each reserve day from the first closed session, included, to the latest, excluded, has a rate
 abbrev pub GapsRated : Type 0
 GapsRated = (w : World) (h : History) → Lawful w h
@@ -88,8 +71,6 @@ pub record LawsHold : Type 0 where
   pub rates : RatesStay
   pub rated : GapsRated
   pub balance : PositionsBalance
-  pub limited : PositionsLimited
-  pub few : TradesFew
   pub expiry : ExpiryMet
   pub apart : MonthsApart
   pub late : LateCarriesNothing
@@ -97,4 +78,3 @@ pub record LawsHold : Type 0 where
   pub paid : ClosesPaid
   pub stays : UnpaidStays
   pub latest : PaysLatest
-  pub dues : DuesMove

@@ -7,13 +7,17 @@ use Rattle.amounts.specs.Trades.{Limited}
 use Rattle.settlement.specs.History.{History, Amounts, traded, written, gather}
 use Rattle.settlement.specs.Lawful.{Lawful}
 use Rattle.settlement.specs.Observed.{accounts_of, months_of, rate_on, opened_days, latest_opened, session_day, open_session, trades_of, settlement_price}
-use Rattle.settlement.specs.Positions.{written_for, due_of, paid_of}
+use Rattle.settlement.specs.Positions.{position_of, written_for, due_of, paid_of}
 use Rattle.settlement.specs.Sessions.{sessions_of, latest_closed}
 use Rattle.settlement.specs.World.{World}
 
 -- at most 32 accounts and 16 months
 abbrev pub TablesLimited : Type 0
 TablesLimited = (w : World) (h : History) → Lawful w h → (length (accounts_of h) ≤ 32) × (length (months_of h) ≤ 16)
+
+-- no position passes 500,000 contracts, bought or sold
+abbrev pub PositionsLimited : Type 0
+PositionsLimited = (w : World) (h : History) (a m : ℕ) → Lawful w h → unsigned_abs (position_of w h a m) ≤ 500000
 
 -- the session has at most 256 trades, of at most 20,000 contracts each
 abbrev pub TradesLimited : Type 0
@@ -80,6 +84,7 @@ DuesFit = (w : World) (h : History) (a : ℕ) → RatesLimited w.rates → ((d :
 -- all of them
 pub record LimitsHold : Type 0 where
   pub tables : TablesLimited
+  pub positions : PositionsLimited
   pub trades : TradesLimited
   pub prices : PricesLimited
   pub opened : OpenedSessions

@@ -1,14 +1,14 @@
--- More laws of lawful histories: what moves a position, what holds of the trades of every session, and when a month has ended.
-use Rattle.std.specs.Prelude.{◌≡◌, ℕ, ◌<◌, Bool, cond, ◌&&◌, ◌∷◌, length, pos, ◌+ℤ◌, Some, None, nat_le, nat_lt}
+-- More laws: what moves positions, due and paid; what holds of the trades of every session; when a month has ended.
+use Rattle.std.specs.Prelude.{◌≡◌, ℕ, ◌<◌, Bool, false, cond, ◌&&◌, ◌∷◌, length, pos, ◌+ℤ◌, Some, None, nat_le, nat_lt}
 use Rattle.std.specs.List.{AllByRecursion}
 use Rattle.interest.specs.Price.{trade_price}
 use Rattle.pricing.specs.Pricing.{days_to}
 use Rattle.amounts.specs.declared.trades.Trade.{Trade}
 use Rattle.amounts.specs.Trades.{contracts_of}
-use Rattle.settlement.specs.History.{History, Event, Amounts, Traded, Closed, traded, written}
+use Rattle.settlement.specs.History.{History, Event, Amounts, Traded, Closed, Paid, traded, written, is_payment}
 use Rattle.settlement.specs.Lawful.{Lawful}
 use Rattle.settlement.specs.Observed.{months_of, is_listed, month_at, expiry_at, session_day, open_session, trades_of}
-use Rattle.settlement.specs.Positions.{has_ended, position_of}
+use Rattle.settlement.specs.Positions.{has_ended, position_of, written_for, due_of, paid_of}
 use Rattle.settlement.specs.Sessions.{sessions_of}
 use Rattle.settlement.specs.World.{World}
 
@@ -25,6 +25,15 @@ pub record PositionsMove : Type 0 where
       → position_of w (Closed c ∷ h) a m ≡ cond (is_expired w h m) (pos 0) (position_of w h a m)
   -- nothing else moves it
   pub still : (w : World) (e : Event) (h : History) (a m : ℕ) → Lawful w (e ∷ h) → traded e ≡ None → written e ≡ None → position_of w (e ∷ h) a m ≡ position_of w h a m
+
+-- what moves due and paid, in every history
+pub record DuesMove : Type 0 where
+  -- a close adds what it wrote to what is due
+  pub closed : (h : History) (c : Amounts) (a : ℕ) → (due_of (Closed c ∷ h) a ≡ due_of h a +ℤ written_for a c) × (paid_of (Closed c ∷ h) a ≡ paid_of h a)
+  -- a payment moves all that is due to what is paid
+  pub paid : (h : History) (a : ℕ) → (due_of (Paid ∷ h) a ≡ pos 0) × (paid_of (Paid ∷ h) a ≡ paid_of h a +ℤ due_of h a)
+  -- nothing else moves either
+  pub still : (e : Event) (h : History) (a : ℕ) → written e ≡ None → is_payment e ≡ false → (due_of (e ∷ h) a ≡ due_of h a) × (paid_of (e ∷ h) a ≡ paid_of h a)
 
 -- of each trade of each closed session, and of the latest session, with the day of its session
 abbrev pub OfTrades : World → History → (ℕ → Trade → Type 0) → Type 0
@@ -58,6 +67,7 @@ pub record EndedBy : Type 0 where
 -- all of them
 pub record MovesHold : Type 0 where
   pub positions : PositionsMove
+  pub dues : DuesMove
   pub in_time : TradesInTime
   pub priced : TradesPriced
   pub ended : EndedBy

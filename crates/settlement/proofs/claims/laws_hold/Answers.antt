@@ -2,7 +2,6 @@ use Rattle.settlement.proofs.claims.laws_hold.Goals as goal
 use Rattle.settlement.proofs.Apart.{months-apart}
 use Rattle.settlement.proofs.Balancing.{positions-balance}
 use Rattle.settlement.proofs.Days.{closed-days, closes-few, opened-sessions}
-use Rattle.settlement.proofs.Dealt.{trades-few}
 use Rattle.settlement.proofs.Dues.{dues-move, pays-latest, unpaid-stays}
 use Rattle.settlement.proofs.Edged.{edges-hold}
 use Rattle.settlement.proofs.Ended.{trades-in-time}
@@ -27,8 +26,6 @@ returns-clause-laws c = record {
   rates = rates-stay;
   rated = gaps-rated;
   balance = positions-balance;
-  limited = positions-limited;
-  few = trades-few;
   expiry = expiry-met;
   apart = months-apart;
   late = late-carries-nothing;
@@ -36,15 +33,15 @@ returns-clause-laws c = record {
   paid = closes-paid;
   stays = unpaid-stays;
   latest = pays-latest;
-  dues = dues-move;
 }
 
 pub returns-clause-moves : goal.returns-clause-moves
-returns-clause-moves c = record { positions = positions-move; in_time = trades-in-time; priced = trades-priced; ended = ended-by }
+returns-clause-moves c = record { positions = positions-move; dues = dues-move; in_time = trades-in-time; priced = trades-priced; ended = ended-by }
 
 pub returns-clause-limits : goal.returns-clause-limits
 returns-clause-limits c = record {
   tables = tables-limited;
+  positions = positions-limited;
   trades = trades-limited;
   prices = prices-within;
   opened = opened-sessions;
