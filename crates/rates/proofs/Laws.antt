@@ -27,12 +27,12 @@ pub day-free : (h : Horizon) (old : Option ℕ) (day : ℕ) (more : List Row) �
 day-free h old day more free = (grind (arith, nat_tests), grind (arith, nat_tests))
 
 -- a day that has a rate keeps it through a publication
-pub published-keeps : {X : Type 0} (horizons : X → Horizon) (rates : X → ℕ → Option ℕ) (before after : X) (day rate period : ℕ) (r : Result (Unit {0}) Refusal)
-    → Published horizons rates before after day rate period r → (d v : ℕ) → rates before d ≡ Some v → rates after d ≡ Some v
-published-keeps horizons rates before after day rate period (Ok done) p d v had =
+pub published-keeps : {X : Type 0} (horizons : X → Horizon) (rates : X → ℕ → Option ℕ) (counts : X → ℕ) (before after : X) (day rate period : ℕ) (r : Result (Unit {0}) Refusal)
+    → Published horizons rates counts before after day rate period r → (d v : ℕ) → rates before d ≡ Some v → rates after d ≡ Some v
+published-keeps horizons rates counts before after day rate period (Ok done) p d v had =
     sets-keeps (rates before) (rates after) day rate d v (p.accepted refl)
     (day-free (horizons before) (rates before day) day (term_rows rate period) p.answers).1 had
-published-keeps {X = X} horizons rates before after day rate period (Err e) p d v had = ap (λ (x : X). rates x d) (p.refused refl) ∙ had
+published-keeps {X = X} horizons rates counts before after day rate period (Err e) p d v had = ap (λ (x : X). rates x d) (p.refused refl) ∙ had
 
 -- and through an arbitration
 pub ruled-keeps : {X : Type 0} (horizons : X → Horizon) (rates : X → ℕ → Option ℕ) (before after : Arbitrated X) (day rate : ℕ) (r : Result (Unit {0}) Refusal)

@@ -27,6 +27,10 @@ layer_horizon horizons x = horizons x.below
 abbrev pub layer_rates : {X : Type 0} → (X → Horizon) → (X → ℕ → Option ℕ) → Arbitrated X → ℕ → Option ℕ
 layer_rates horizons rates x = layered (horizons x.below) (rates x.below) (vec_items x.days)
 
+-- how many days a layer has arbitrated
+abbrev pub layer_count : {X : Type 0} → Arbitrated X → ℕ
+layer_count x = vec_len x.days
+
 -- a day of a layer may be given a rate
 abbrev pub LayerDayFree : {X : Type 0} → (X → Horizon) → (X → ℕ → Option ℕ) → Arbitrated X → ℕ → Type 0
 LayerDayFree horizons rates x day = None ≡ day_refusal (layer_horizon horizons) (layer_rates horizons rates) x day
@@ -34,7 +38,7 @@ LayerDayFree horizons rates x day = None ≡ day_refusal (layer_horizon horizons
 -- what a publication does to a layer
 abbrev pub LayerPublished : {X : Type 0} → (X → Horizon) → (X → ℕ → Option ℕ) → Arbitrated X → Arbitrated X → ℕ → ℕ → ℕ → Result (Unit {0}) Refusal → Type 0
 LayerPublished horizons rates before after day rate period r =
-    Published (layer_horizon horizons) (layer_rates horizons rates) before after day rate period r
+    Published (layer_horizon horizons) (layer_rates horizons rates) layer_count before after day rate period r
 
 -- the rate of the day is the arbitrated one
 abbrev pub by_layer : {X : Type 0} → (X → Horizon) → (X → ℕ → Option ℕ) → Arbitrated X → ℕ → Bool

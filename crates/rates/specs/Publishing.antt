@@ -31,9 +31,10 @@ publish_rows h old day rate period = day_rows h old day ++ term_rows rate period
 abbrev pub Sets : (ℕ → Option ℕ) → ℕ → ℕ → (ℕ → Option ℕ) → Type 0
 Sets before day rate after = (d : ℕ) → after d ≡ cond (d == day) (Some rate) (before d)
 
--- what a publication does to a source that means `horizons` and `rates`
-pub record Published {X : Type 0} (horizons : X → Horizon) (rates : X → ℕ → Option ℕ) (before after : X) (day rate period : ℕ) (r : Result (Unit {0}) Refusal) : Type 0 where
+-- what a publication does to a source that means `horizons` and `rates`, and whose top layer has `counts` days
+pub record Published {X : Type 0} (horizons : X → Horizon) (rates : X → ℕ → Option ℕ) (counts : X → ℕ) (before after : X) (day rate period : ℕ) (r : Result (Unit {0}) Refusal) : Type 0 where
   pub answers : result_err r ≡ first_row (publish_rows (horizons before) (rates before day) day rate period)
   pub refused : is_ok r ≡ false → after ≡ before
   pub horizon_stays : horizons after ≡ horizons before
+  pub count_stays : counts after ≡ counts before
   pub accepted : is_ok r ≡ true → Sets (rates before) day rate (rates after)

@@ -18,6 +18,8 @@ impl RateSource for FlatSource {
 
     ghost rates = { λ x. flat x.horizon x.rate };
 
+    ghost arbitrated = { λ x. 0 };
+
     ghost outside = { Prim.search rules };
 
     ghost bounded = { Prim.search rules };

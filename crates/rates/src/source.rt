@@ -18,6 +18,9 @@ pub trait RateSource {
 
     ghost rates: { Self → ℕ → Option ℕ };
 
+    // How many days the layer on top has arbitrated, 0 where no layer is on top.
+    ghost arbitrated: { Self → ℕ };
+
     fn horizon(&self) -> Horizon
         ensures { result ≡ horizons self.now };
 
@@ -32,7 +35,7 @@ pub trait RateSource {
 // A source that takes the rate of a day that has none.
 pub trait Publishing: RateSource {
     fn publish(&mut self, entry: DayRate, period: u32) -> Result<(), Refusal>
-        ensures { Published Self.RateSource.horizons Self.RateSource.rates self.old self.new entry.day entry.rate period result };
+        ensures { Published Self.RateSource.horizons Self.RateSource.rates Self.RateSource.arbitrated self.old self.new entry.day entry.rate period result };
 }
 
 // Whether a day may be given a rate.

@@ -62,6 +62,8 @@ impl RateSource for TableSource {
 
     ghost rates = { table_rates };
 
+    ghost arbitrated = { λ x. 0 };
+
     ghost outside = { Prim.search rules };
 
     ghost bounded = { Prim.search rules };

@@ -95,7 +95,8 @@ fn sixteen_days(rt: HostRuntime) -> Result<(), Fail> {
 
 // Publishes through all layers, and reads the rate at the top.
 fn published<S: Publishing>(source: &mut S, day: u32, rate: u32) -> Option<u32>
-    ensures { is_some result ≡ true → result ≡ Some rate }
+    ensures rate { is_some result ≡ true → result ≡ Some rate }
+    ensures count { S.RateSource.arbitrated source.new ≡ S.RateSource.arbitrated source.old }
 {
     source.publish(DayRate { day, rate }, 1).ok()?;
     source.rate(day)

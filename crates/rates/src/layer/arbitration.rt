@@ -2,7 +2,7 @@
 ghost use Rattle.std.specs.Prelude.{◌≡◌, ℕ, ◌<◌, ◌≤◌, [], ◌∷◌, ◌++◌, IfOk, IfErr, None, vec_len};
 ghost use Rattle.rates.specs.Listed.{listed};
 ghost use Rattle.rates.specs.Publishing.{Sets};
-ghost use Rattle.rates.specs.Layers.{layer_horizon, layer_rates, by_layer, LayerDayFree, LayerPublished, Ruled};
+ghost use Rattle.rates.specs.Layers.{layer_horizon, layer_rates, layer_count, by_layer, LayerDayFree, LayerPublished, Ruled};
 ghost use Rattle.rates.specs.Layering.{layer-bounded};
 ghost use Rattle.std.proofs.Common.{rules, arith};
 
@@ -51,6 +51,8 @@ impl<S: RateSource> RateSource for Arbitrated<S> {
     ghost horizons = { layer_horizon S.RateSource.horizons };
 
     ghost rates = { layer_rates S.RateSource.horizons S.RateSource.rates };
+
+    ghost arbitrated = { layer_count };
 
     ghost outside = { first_of (Prim.search rules, Prim.grind (arith, Self.row.coded.inj)) };
 
