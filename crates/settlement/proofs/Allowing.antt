@@ -9,7 +9,7 @@ use Rattle.amounts.specs.declared.trades.Trade.{Trade}
 use Rattle.settlement.specs.declared.accounts.Account.{Account}
 use Rattle.settlement.specs.World.{World}
 use Rattle.settlement.specs.History.{History, Amounts, Entered, Listed, Published, Arbitrated, Opened, Traded, Marked, Paid, written, newest}
-use Rattle.settlement.specs.Observed.{accounts_of, months_of, expiry_at, rate_on, latest_opened, session_day, in_session, open_session, trades_of}
+use Rattle.settlement.specs.Observed.{accounts_of, months_of, expiry_at, rate_on, latest_opened, session_day, since_opened, open_session, trades_of}
 use Rattle.settlement.specs.Sessions.{sessions_of, unpaid_day, gap_to}
 use Rattle.settlement.specs.Positions.{position_of}
 use Rattle.settlement.specs.Rows.{Paper, is_of, lacks_expiry, enter_rows, list_rows, publish_rows, arbitrate_rows, open_rows, trade_rows, mark_rows, close_rows, pay_rows}
@@ -40,9 +40,9 @@ pub record OpenOn (h : History) (d : ℕ) : Type 0 where
   pub day : session_day h ≡ d
 
 pub open-on : (h : History) (d : ℕ) → open_session h ≡ Some d → OpenOn h d
-open-on h d e = by (newest written (in_session h)) refl e
+open-on h d e = by (newest written (since_opened h)) refl e
   where
-    by : (o : Option Amounts) → newest written (in_session h) ≡ o → cond (option_is_some o) None (latest_opened h) ≡ Some d → OpenOn h d
+    by : (o : Option Amounts) → newest written (since_opened h) ≡ o → cond (option_is_some o) None (latest_opened h) ≡ Some d → OpenOn h d
     by None f l = record { is_open = e; latest = l; day = ap (λ o. unwrap_or o 0) l }
     by (Some c) f l = absurd cc
 

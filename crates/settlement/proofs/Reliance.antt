@@ -1,5 +1,5 @@
 -- What the close of a session can rely on: positions, prices and the gap are small.
-use Rattle.std.proofs.Common.{◌≡◌, ℕ, ◌+◌, ◌-◌, ◌*◌, ◌^◌, ◌<◌, ◌≤◌, Bool, true, false, cond, eqb, List, [], ◌∷◌, map, length, pos, ◌+ℤ◌, ◌-ℤ◌, nat_abs, Some, None, Option, unwrap_or, sym, refl, ap, ◌∙◌, inl, inr, mul-le-mul_left, arith}
+use Rattle.std.proofs.Common.{◌≡◌, ℕ, ◌+◌, ◌-◌, ◌*◌, ◌^◌, ◌<◌, ◌≤◌, Bool, true, false, cond, ◌&&◌, eqb, List, [], ◌∷◌, map, length, pos, ◌+ℤ◌, ◌-ℤ◌, nat_abs, Some, None, Option, unwrap_or, sym, refl, ap, ◌∙◌, inl, inr, mul-le-mul_left, arith}
 use borrow.Author.Differences.{ints}
 use Rattle.std.specs.List.{range_with_len, AllByRecursion}
 use Rattle.std.proofs.lemmas.List.FromFn.{length-range_with_len}
@@ -83,7 +83,7 @@ mark-limited w (e ∷ h) l m = mark-limited w h l.1 m
 -- a settlement price is at most 10,000,000
 pub price-limited : (w : World) (h : History) → Lawful w h → (m : ℕ) → settlement_price w h m ≤ 10000000
 price-limited w h l m =
-    cond_both (eqb (session_day h) (expiry_at w h m)) 10000000 (unwrap_or (mark_of h m) 0) (λ p. p ≤ 10000000) (λ e. omega arith) (λ e. mark-limited w h l m)
+    cond_both (is_listed h m && eqb (session_day h) (expiry_at w h m)) 10000000 (unwrap_or (mark_of h m) 0) (λ p. p ≤ 10000000) (λ e. omega arith) (λ e. mark-limited w h l m)
 
 pub prices-limited : (w : World) (h : History) → Lawful w h → AllByRecursion (λ s. (m : ℕ) → s.prices m ≤ 10000000) (sessions_of w h)
 prices-limited w [] l = tt

@@ -1,5 +1,5 @@
 -- What is seen of a world and a history: accounts, months, rates, the session, its trades and its prices.
-use Rattle.std.specs.Prelude.{ℕ, ◌+◌, Bool, cond, List, length, is_some, Some, None, Option, ◌==◌, nat_lt, slice_index}
+use Rattle.std.specs.Prelude.{ℕ, ◌+◌, Bool, cond, ◌&&◌, List, length, is_some, Some, None, Option, ◌==◌, nat_lt, slice_index}
 use Rattle.std.specs.Option.{unwrap_or}
 use Rattle.calendar.specs.Spans.{first_session}
 use Rattle.pricing.specs.Pricing.{expiry_day}
@@ -44,12 +44,12 @@ abbrev pub session_day : History → ℕ
 session_day h = unwrap_or (latest_opened h) 0
 
 -- what happened since the latest session was opened, after its close too
-abbrev pub in_session : History → History
-in_session h = since is_opening h
+abbrev pub since_opened : History → History
+since_opened h = since is_opening h
 
 -- the latest session, unless it was closed
 abbrev pub open_session : History → Option ℕ
-open_session h = cond (is_some (newest written (in_session h))) None (latest_opened h)
+open_session h = cond (is_some (newest written (since_opened h))) None (latest_opened h)
 
 -- the day from which the next session is looked for: the start day, later the day after the latest session
 abbrev pub next_from : World → Option ℕ → ℕ
@@ -62,12 +62,12 @@ next_session w h = first_session w.kinds (next_from w (latest_opened h)) (next_f
 
 -- the trades of the latest session, in order of acceptance
 abbrev pub trades_of : History → List Trade
-trades_of h = gather traded (in_session h)
+trades_of h = gather traded (since_opened h)
 
 -- the latest mark of a month in the session
 abbrev pub mark_of : History → ℕ → Option ℕ
-mark_of h m = newest (marked m) (in_session h)
+mark_of h m = newest (marked m) (since_opened h)
 
 -- the settlement price of a month in the session, in centavos: 10,000,000 on its expiry, else the latest mark, 0 without one
 abbrev pub settlement_price : World → History → ℕ → ℕ
-settlement_price w h m = cond (session_day h == expiry_at w h m) 10000000 (unwrap_or (mark_of h m) 0)
+settlement_price w h m = cond (is_listed h m && session_day h == expiry_at w h m) 10000000 (unwrap_or (mark_of h m) 0)

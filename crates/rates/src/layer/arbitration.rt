@@ -94,7 +94,8 @@ impl<S: RateSource> Arbitrated<S> {
 
     // Sets the rate of a day that has none.
     pub fn arbitrate(&mut self, entry: DayRate) -> Result<(), Refusal>
-        ensures { Ruled S.RateSource.horizons S.RateSource.rates self.old self.new entry.day entry.rate result }
+        ensures ruled { Ruled S.RateSource.horizons S.RateSource.rates self.old self.new entry.day entry.rate result }
+        ensures counted { ⟦<Arbitrated<S> as RateSource>⟧.arbitrated self.new ≡ vec_len self.new.days }
     {
         check_day(self, entry.day)?;
         if entry.rate > HIGHEST_RATE {
