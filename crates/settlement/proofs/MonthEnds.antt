@@ -15,7 +15,7 @@ use Rattle.settlement.specs.Sessions.{Session, sessions_of, has_reached}
 use Rattle.settlement.specs.World.{World}
 use Rattle.settlement.proofs.Allowing.{listing}
 use Rattle.settlement.proofs.Ended.{expired-before}
-use Rattle.settlement.proofs.Limits.{unreached}
+use Rattle.settlement.proofs.Falling.{unreached}
 use Rattle.settlement.proofs.Order.{open-later}
 use Rattle.settlement.proofs.Reliance.{closed-latest}
 

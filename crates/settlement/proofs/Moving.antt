@@ -1,9 +1,11 @@
 -- What moves a position.
-use Rattle.std.proofs.Common.{◌≡◌, ℕ, ◌≤◌, Bool, true, false, cond, ◌&&◌, leb, [], ◌∷◌, ◌++◌, length, pos, ◌+ℤ◌, None, sym, refl, ap, ◌∙◌, inl, inr, arith}
+use Rattle.std.proofs.Common.{◌≡◌, ℕ, ◌≤◌, Bool, true, false, cond, ◌&&◌, leb, List, [], ◌∷◌, ◌++◌, length, pos, ◌+ℤ◌, None, sym, refl, ap, ◌∙◌, inl, inr, arith}
 use Rattle.std.proofs.lemmas.List.{append-nil, length_push, get_or_push, get_or_append_left}
 use Rattle.std.proofs.lemmas.Bool.{true≢false, cases_lt, ltb-true, leb-false, lt-ltb, le-ltb}
 use Rattle.amounts.specs.declared.trades.Trade.{Trade}
 use Rattle.amounts.specs.Trades.{contracts_of, position_change}
+use Rattle.amounts.proofs.Totals.{total-append}
+use borrow.Author.Differences.{ints}
 use Rattle.pricing.specs.Pricing.{expiry_day}
 use Rattle.settlement.specs.World.{World}
 use Rattle.settlement.specs.History.{History, Event, Amounts, Listed, Traded, Closed, traded, written, gather}
@@ -15,7 +17,7 @@ use Rattle.settlement.specs.Sessions.{sessions_of, has_reached}
 use Rattle.settlement.proofs.Allowing.{trading, closing}
 use Rattle.settlement.proofs.Ended.{no-contracts}
 use Rattle.settlement.proofs.Expiring.{listed-later}
-use Rattle.settlement.proofs.Limits.{one_more, unreached}
+use Rattle.settlement.proofs.Falling.{unreached}
 use Rattle.settlement.proofs.Order.{in_order, open-later}
 
 -- the month that is listed has its expiry still to come, and nothing changes for the others
@@ -36,7 +38,7 @@ listing-ends w h n m l =
     by false e j = refl
 
 -- only a close ends a month
-ended-stays : (w : World) (e : Event) (h : History) (m : ℕ) → Lawful w (e ∷ h) → written e ≡ None → has_ended w (e ∷ h) m ≡ has_ended w h m
+pub ended-stays : (w : World) (e : Event) (h : History) (m : ℕ) → Lawful w (e ∷ h) → written e ≡ None → has_ended w (e ∷ h) m ≡ has_ended w h m
 ended-stays w (Listed n) h m l q = listing-ends w h n m l
 ended-stays w (Closed c) h m l q = absurd cc
 ended-stays w e h m l q = rw (append-nil (months_of h))
@@ -48,7 +50,11 @@ traded-goes-on w h t l =
     rw (lt-ltb t.month (length (months_of h)) x.month)
     (unreached x.day (expiry_at w h t.month) (sessions_of w h) (open-later w h x.day l.1 x.session.is_open) (omega (arith, x.before-expiry)))
 
-trade-moves : (w : World) (h : History) (t : Trade) (a m : ℕ) → Lawful w (Traded t ∷ h)
+-- a trade more
+pub one_more : (a m : ℕ) (ts : List Trade) (t : Trade) → position_change a m ts +ℤ contracts_of a m t ≡ position_change a m (ts ++ t ∷ [])
+one_more a m ts t = let e = total-append (contracts_of a m) ts (t ∷ []) in omega (arith, ints)
+
+pub trade-moves : (w : World) (h : History) (t : Trade) (a m : ℕ) → Lawful w (Traded t ∷ h)
     → position_of w (Traded t ∷ h) a m ≡ position_of w h a m +ℤ contracts_of a m t
 trade-moves w h t a m l =
     rw (ended-stays w (Traded t) h m l refl, sym (one_more a m (gather traded h) t)) (by (has_ended w h m) refl)
@@ -59,7 +65,7 @@ trade-moves w h t a m l =
     by false e = refl
 
 -- a month that ends in no session up to this one has not ended before
-close-moves : (w : World) (h : History) (c : Amounts) (a m : ℕ) → Lawful w (Closed c ∷ h)
+pub close-moves : (w : World) (h : History) (c : Amounts) (a m : ℕ) → Lawful w (Closed c ∷ h)
     → position_of w (Closed c ∷ h) a m ≡ cond (is_expired w h m) (pos 0) (position_of w h a m)
 close-moves w h c a m l = rw (append-nil (months_of h), append-nil (gather traded h)) (by (is_expired w h m) refl)
   where
@@ -74,7 +80,7 @@ close-moves w h c a m l = rw (append-nil (months_of h), append-nil (gather trade
     by true e = refl
     by false e = rw (earlier (is_listed h m) e) refl
 
-still-held : (w : World) (e : Event) (h : History) (a m : ℕ) → Lawful w (e ∷ h) → traded e ≡ None → written e ≡ None → position_of w (e ∷ h) a m ≡ position_of w h a m
+pub still-held : (w : World) (e : Event) (h : History) (a m : ℕ) → Lawful w (e ∷ h) → traded e ≡ None → written e ≡ None → position_of w (e ∷ h) a m ≡ position_of w h a m
 still-held w e h a m l t q = rw (ended-stays w e h m l q, t, append-nil (gather traded h)) refl
 
 pub positions-move : PositionsMove

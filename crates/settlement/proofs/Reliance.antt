@@ -17,8 +17,8 @@ use Rattle.interest.proofs.Carried.{corrected-none, corrected-first}
 use Rattle.amounts.specs.Trades.{contracts_of, position_change}
 use Rattle.rates.specs.Layers.{or_else}
 use Rattle.settlement.specs.World.{World}
-use Rattle.settlement.specs.History.{History, Amounts, Listed, Opened, Marked, Closed, traded, written, gather}
-use Rattle.settlement.specs.Observed.{months_of, is_listed, expiry_at, rate_on, latest_opened, session_day, open_session, next_from, trades_of, mark_of, settlement_price}
+use Rattle.settlement.specs.History.{History, Amounts, Opened, Marked, Closed, traded, written, gather}
+use Rattle.settlement.specs.Observed.{is_listed, expiry_at, rate_on, latest_opened, session_day, open_session, next_from, trades_of, mark_of, settlement_price}
 use Rattle.settlement.specs.Sessions.{Session, added, sessions_of, latest_closed, has_reached, gap_to}
 use Rattle.settlement.specs.Positions.{has_ended, contracts_in, position_of, carried_of, corrected_to}
 use Rattle.settlement.specs.Lawful.{Lawful}
@@ -27,7 +27,9 @@ use Rattle.settlement.proofs.Allowing.{open-on, marking, opening, closing}
 use Rattle.settlement.proofs.Dealt.{dealt-split}
 use Rattle.settlement.proofs.Cells.{total-none}
 use Rattle.settlement.proofs.Ended.{other-months}
-use Rattle.settlement.proofs.Limits.{cond-within, unreached, silent, listing-within, positions-limited}
+use Rattle.settlement.proofs.Falling.{unreached}
+use Rattle.settlement.proofs.Limits.{cond-within, positions-limited}
+use Rattle.settlement.proofs.Moving.{ended-stays}
 use Rattle.settlement.proofs.Order.{next-first, open-later}
 
 -- an expired month expired before the open session
@@ -65,11 +67,8 @@ carried-closed w h l o a m =
 -- no position that a session began with passes 500,000 contracts
 pub carried-limited : (w : World) (h : History) → Lawful w h → (a m : ℕ) → nat_abs (carried_of w h a m) ≤ 500000
 carried-limited w [] l a m = cond-within (has_ended w [] m) (pos 0) (omega (arith, ints))
-carried-limited w (Listed n ∷ h) l a m =
-    listing-within w m (months_of h) (sessions_of w h) (contracts_in a m (sessions_of w h)) (carried-limited w h l.1 a m) n
 carried-limited w (Closed c ∷ h) l a m = rw (carried-closed w (Closed c ∷ h) l refl a m) (positions-limited w (Closed c ∷ h) a m l)
-carried-limited w (e ∷ h) l a m =
-    silent w m (months_of h) (sessions_of w h) (contracts_in a m (sessions_of w h)) (carried-limited w h l.1 a m)
+carried-limited w (e ∷ h) l a m = rw (ended-stays w e h m l refl) (carried-limited w h l.1 a m)
 
 -- a mark of a session is at most 10,000,000
 mark-limited : (w : World) (h : History) → Lawful w h → (m : ℕ) → unwrap_or (mark_of h m) 0 ≤ 10000000

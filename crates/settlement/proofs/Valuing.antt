@@ -19,8 +19,7 @@ use Rattle.settlement.proofs.Allowing.{closing}
 use Rattle.settlement.proofs.Cells.{cells}
 use Rattle.settlement.proofs.Ended.{ended}
 use Rattle.settlement.proofs.Expiring.{months-stay}
-use Rattle.settlement.proofs.Falling.{Falling}
-use Rattle.settlement.proofs.Limits.{unreached}
+use Rattle.settlement.proofs.Falling.{Falling, unreached}
 use Rattle.settlement.proofs.Order.{falling, open-later}
 use Rattle.settlement.proofs.Rated.{Kept, rate-stays, factors-stay, rated-stay}
 use Rattle.settlement.proofs.Telescope.{NearFrom, Adjusted, Ruled, all-kept, near}
