@@ -4,7 +4,7 @@ use mathlib.Core.Path.{fun_ext}
 use lib.IntN.{zero-*ℤ}
 use Rattle.std.specs.List.{AllByRecursion}
 use Rattle.std.proofs.ByRecursion.{All-append, All-weaker}
-use Rattle.std.proofs.lemmas.Bool.{true≢false, eqb-true, agree_below_at}
+use Rattle.std.proofs.lemmas.Bool.{true≢false, eqb-true, agree_below, agree_below_at}
 use Rattle.amounts.specs.declared.trades.Trade.{Trade}
 use Rattle.amounts.proofs.Accounts.{Once, Among}
 use Rattle.amounts.specs.Amounts.{gain_of, on_trades}
@@ -24,17 +24,16 @@ use Rattle.settlement.specs.Balance.{AlwaysBalanced}
 use Rattle.settlement.proofs.Cells.{cells}
 use Rattle.settlement.proofs.Dealt.{FitsIn, accounts-few, trades-fit, session-fits, closed-fit, gather-split}
 
--- an account stands once among the indices
-pub index-once : (a : ℕ) → a < 32 → Once account_indices a
-index-once a h =
-    eqb-true (count_by (eqb a) account_indices) 1 (agree_below_at (λ n. eqb (count_by (eqb n) account_indices) 1) (λ _. true) 32 a refl h)
+-- a number below n stands once in a list, by a test of each
+pub once-below : (xs : List ℕ) (n : ℕ) → agree_below (λ k. eqb (count_by (eqb k) xs) 1) (λ _. true) n ≡ true → (a : ℕ) → a < n → Once xs a
+once-below xs n test a h = eqb-true (count_by (eqb a) xs) 1 (agree_below_at (λ k. eqb (count_by (eqb k) xs) 1) (λ _. true) n a test h)
 
 -- both sides of each trade stand once among the indices
 pub among : (w : World) (h : History) → Lawful w h → (ts : List Trade) → AllByRecursion (FitsIn h) ts → Among account_indices ts
 among w h l ts f =
     let few = accounts-few w h l in
     All-weaker (FitsIn h) (λ t. Once account_indices t.buyer × Once account_indices t.seller)
-    (λ t g. let b = g.buyer in let s = g.seller in (index-once t.buyer (omega arith), index-once t.seller (omega arith))) ts f
+    (λ t g. let b = g.buyer in let s = g.seller in (once-below account_indices 32 refl t.buyer (omega arith), once-below account_indices 32 refl t.seller (omega arith))) ts f
 
 -- the contracts of all accounts come to 0, over trades and over sessions
 pub changes-opposite : (m : ℕ) (accounts : List ℕ) (ts : List Trade) → Among accounts ts → total (λ a. position_change a m ts) accounts ≡ pos 0

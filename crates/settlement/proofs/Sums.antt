@@ -4,12 +4,10 @@ use mathlib.Core.Path.{fun_ext}
 use borrow.Author.Differences.{ints}
 use Rattle.std.specs.List.{AllByRecursion}
 use Rattle.std.proofs.ByRecursion.{All-append}
-use Rattle.std.proofs.lemmas.Bool.{eqb-true, agree_below_at}
 use Rattle.std.proofs.lemmas.List.{append-nil, length_push}
 use Rattle.std.proofs.lemmas.List.Sums.{sum_by-cons, count_by-le-length}
 use Rattle.interest.proofs.Ring.{abs-mul}
 use Rattle.amounts.specs.declared.trades.Trade.{Trade}
-use Rattle.amounts.proofs.Accounts.{Once}
 use Rattle.amounts.specs.Amounts.{gain_of, on_trades}
 use Rattle.amounts.specs.Sums.{total}
 use Rattle.amounts.specs.Trades.{contracts_of}
@@ -24,6 +22,7 @@ use Rattle.settlement.specs.Observed.{months_of, rate_on, session_day, open_sess
 use Rattle.settlement.specs.Positions.{carried_of, corrected_to, adjustment_at, written_for, due_of}
 use Rattle.settlement.specs.Sessions.{sessions_of}
 use Rattle.settlement.proofs.Allowing.{open-on, closing}
+use Rattle.settlement.proofs.Balancing.{once-below}
 use Rattle.settlement.proofs.Cells.{cells}
 use Rattle.settlement.proofs.Days.{closes-few, session-bound}
 use Rattle.settlement.proofs.Dealt.{FitsIn, session-fits, trades-few}
@@ -39,12 +38,7 @@ gain-most z a b k h l =
     let d : nat_abs (pos a -ℤ pos b) ≤ k = omega (arith, ints) in
     omega (arith, abs-mul z (pos a -ℤ pos b), mul-le-mul_left (nat_abs z) d)
 
--- a month stands once among the indices
-month-once : (m : ℕ) → m < 16 → Once month_indices m
-month-once m h =
-    eqb-true (count_by (eqb m) month_indices) 1 (agree_below_at (λ n. eqb (count_by (eqb n) month_indices) 1) (λ _. true) 16 m refl h)
-
--- of a small trade, whose month stands once at most in a list
+-- a small trade, whose month stands at most once in a list
 record Small (ms : List ℕ) (t : Trade) : Type 0 where
   quantity : t.quantity ≤ 20000
   price : t.price ≤ 10000000
@@ -94,14 +88,14 @@ every f k e (m ∷ ms) = (e m, every f k e ms)
 
 -- what the rules give at a close
 module _ (w : World) (h : History) (l : Lawful w h) (bounded : RatesLimited w.rates) (d : ℕ) (o : open_session h ≡ Some d) (a : ℕ) where
-  abbrev corrected_in : ℕ → ℕ
-  corrected_in m = corrected_to w (rate_on w h) (session_day h) (sessions_of w h) m
+  abbrev corrected_at : ℕ → ℕ
+  corrected_at m = corrected_to w (rate_on w h) (session_day h) (sessions_of w h) m
 
-  on-carried : (m : ℕ) → nat_abs (gain_of (carried_of w h a m) (settlement_price w h m) (corrected_in m)) ≤ 6652670000000
+  on-carried : (m : ℕ) → nat_abs (gain_of (carried_of w h a m) (settlement_price w h m) (corrected_at m)) ≤ 6652670000000
   on-carried m =
-      let c : corrected_in m ≤ 13305340 = rw (open-on h d o).day (latest-most w h d l o (rates-stay-limited w h bounded l) m) in
+      let c : corrected_at m ≤ 13305340 = rw (open-on h d o).day (latest-most w h d l o (rates-stay-limited w h bounded l) m) in
       let p = price-limited w h l m in
-      let g = gain-most (carried_of w h a m) (settlement_price w h m) (corrected_in m) 13305340 (omega arith) c in
+      let g = gain-most (carried_of w h a m) (settlement_price w h m) (corrected_at m) 13305340 (omega arith) c in
       omega (arith, carried-limited w h l a m)
 
   all-most : (ms : List ℕ) → ((m : ℕ) → m < 16 → count_by (eqb m) ms ≤ 1) → nat_abs (total (adjustment_at w h a) ms) ≤ 51200000000000 + length ms * 6652670000000
@@ -110,7 +104,7 @@ module _ (w : World) (h : History) (l : Lawful w h) (bounded : RatesLimited w.ra
       let s = smalls w h ms once (months-few w h l) ts (session-fits w h l) (session-priced w h l) in
       let few = trades-few w h l in
       let k = trades-most a (settlement_price w h) (price-limited w h l) ms ts s in
-      let carried : ℕ → ℤ = λ m. gain_of (carried_of w h a m) (settlement_price w h m) (corrected_in m) in
+      let carried : ℕ → ℤ = λ m. gain_of (carried_of w h a m) (settlement_price w h m) (corrected_at m) in
       let c = total_size carried 6652670000000 ms (every carried 6652670000000 on-carried ms) in
       rw (total-sum (λ m. on_trades a m (settlement_price w h m) ts) carried ms) (omega (arith, ints))
 
@@ -121,7 +115,7 @@ module _ (w : World) (h : History) (l : Lawful w h) (bounded : RatesLimited w.ra
 
   together-most : nat_abs (total (adjustment_at w h a) month_indices) ≤ 160000000000000
   together-most =
-      let k = all-most month_indices (λ x i. let e = month-once x i in omega arith) in
+      let k = all-most month_indices (λ x i. let e = once-below month_indices 16 refl x i in omega arith) in
       omega arith
 
 -- what a close writes
@@ -130,8 +124,7 @@ close-within w h c b l =
     let s = closing w h c l.0 in
     record {
       each = λ a m. rw (cells w h c l a m) (each-most w h l.1 b s.day s.session.is_open a m);
-      together = λ a.
-          rw (fun_ext (λ m. cells w h c l a m)) (together-most w h l.1 b s.day s.session.is_open a);
+      together = λ a. rw (fun_ext (λ m. cells w h c l a m)) (together-most w h l.1 b s.day s.session.is_open a);
     }
 
 new-within : (w : World) (h : History) (e : Event) → RatesLimited w.rates → Lawful w (e ∷ h) → AllByRecursion AmountsWithin (list_of (written e))
