@@ -3,9 +3,9 @@ use Rattle.std.proofs.Common.{ℕ, ◌<◌, ◌≤◌, sym, ◌∙◌, inl, inr,
 use Rattle.std.proofs.lemmas.Bool.{true≢false, cases_lt}
 use Rattle.dates.specs.Months.{first_day, month_of}
 use Rattle.dates.proofs.MonthLaws.{first-day-grows, first-day-bound, month-holds}
-use Rattle.settlement.specs.Laws.{MonthsApart}
+use Rattle.settlement.specs.Laws.{MonthsApart, TradesApart}
 use Rattle.settlement.specs.Observed.{month_at}
-use Rattle.settlement.proofs.Allowing.{open-on}
+use Rattle.settlement.proofs.Allowing.{open-on, trading}
 use Rattle.settlement.proofs.Order.{in_order}
 use Rattle.settlement.proofs.Expiring.{expiry-is}
 
@@ -25,3 +25,7 @@ months-apart w h d m l o i b =
       | inl j ↦ omega (arith, earlier d (month_at h m) x.0 j)
       | inr j ↦ absurd (true≢false (sym ((in_order w h l).on-session d (open-on h d o).latest) ∙ x.1.3 d j b))
     ]
+
+pub trades-apart : TradesApart
+trades-apart w h t l =
+    let x = trading w h t l.0 in rw x.session.day (months-apart w h x.day t.month l.1 x.session.is_open x.month x.before-expiry)

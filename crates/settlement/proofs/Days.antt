@@ -1,5 +1,5 @@
 -- The days of sessions, opened and closed, and how many were closed.
-use Rattle.std.proofs.Common.{◌≡◌, ℕ, ◌+◌, ◌<◌, ◌≤◌, true, List, [], ◌∷◌, ◌++◌, length, Some, None, Option, sym, refl, ap, ◌∙◌, inl, inr, unwrap_or, arith}
+use Rattle.std.proofs.Common.{◌≡◌, ℕ, ◌+◌, ◌<◌, ◌≤◌, true, List, [], ◌∷◌, length, Some, None, Option, sym, refl, ◌∙◌, inl, inr, unwrap_or, arith}
 use Rattle.std.specs.List.{AllByRecursion}
 use Rattle.std.proofs.ByRecursion.{All-push, All-weaker}
 use Rattle.std.proofs.lemmas.Bool.{true≢false, cases_lt}
@@ -8,11 +8,11 @@ use Rattle.calendar.specs.declared.kind.DayKind.TheVariants.{Closed as closed_da
 use Rattle.calendar.specs.Kinds.{is_session}
 use Rattle.calendar.proofs.Spans.{past-last}
 use Rattle.settlement.specs.World.{World}
-use Rattle.settlement.specs.History.{History, Amounts, Opened, Closed, written, list_of, gather}
+use Rattle.settlement.specs.History.{History, Opened, Closed, written, gather}
 use Rattle.settlement.specs.Lawful.{Lawful}
 use Rattle.settlement.specs.Limits.{OpenedSessions, ClosedDays, ClosesFew}
 use Rattle.settlement.specs.Observed.{opened_days, latest_opened, session_day, next_from}
-use Rattle.settlement.specs.Sessions.{Session, added, sessions_of}
+use Rattle.settlement.specs.Sessions.{Session, sessions_of}
 use Rattle.settlement.proofs.Falling.{Falling}
 use Rattle.settlement.proofs.Order.{falling, in_order, next-first, open-later}
 use Rattle.settlement.proofs.Reliance.{closed-latest}
@@ -28,12 +28,8 @@ closed-days w h l = (λ o. sym (closed-latest w h l o), λ d o. open-later w h d
 -- a closed session for each close
 pub closes-sessions : (w : World) (h : History) → length (gather written h) ≡ length (sessions_of w h)
 closes-sessions w [] = refl
-closes-sessions w (e ∷ h) = by (written e) (closes-sessions w h)
-  where
-    by : (o : Option Amounts) → length (gather written h) ≡ length (sessions_of w h)
-        → length (gather written h ++ list_of o) ≡ length (added w h o (sessions_of w h))
-    by None k = ap length (append-nil (gather written h)) ∙ k
-    by (Some c) k = omega (arith, length_push (gather written h) c)
+closes-sessions w (Closed c ∷ h) = let k = closes-sessions w h in omega (arith, length_push (gather written h) c)
+closes-sessions w (e ∷ h) = rw (append-nil (gather written h)) (closes-sessions w h)
 
 -- none is after the latest session
 closed-by : (w : World) (h : History) → Lawful w h → AllByRecursion (λ s. s.day < session_day h + 1) (sessions_of w h)

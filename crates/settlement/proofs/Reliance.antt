@@ -17,9 +17,9 @@ use Rattle.interest.proofs.Carried.{corrected-none, corrected-first}
 use Rattle.amounts.specs.Trades.{contracts_of, position_change}
 use Rattle.rates.specs.Layers.{or_else}
 use Rattle.settlement.specs.World.{World}
-use Rattle.settlement.specs.History.{History, Amounts, Opened, Marked, Closed, traded, written, gather}
+use Rattle.settlement.specs.History.{History, Opened, Marked, Closed, traded, gather}
 use Rattle.settlement.specs.Observed.{is_listed, expiry_at, rate_on, latest_opened, session_day, open_session, next_from, trades_of, mark_of, settlement_price}
-use Rattle.settlement.specs.Sessions.{Session, added, sessions_of, latest_closed, has_reached, gap_to}
+use Rattle.settlement.specs.Sessions.{Session, sessions_of, latest_closed, has_reached, gap_to}
 use Rattle.settlement.specs.Positions.{has_ended, contracts_in, position_of, carried_of, corrected_to}
 use Rattle.settlement.specs.Lawful.{Lawful}
 pub use Rattle.settlement.specs.Limits.{RatesLimited}
@@ -86,12 +86,8 @@ price-limited w h l m =
 
 pub prices-limited : (w : World) (h : History) → Lawful w h → AllByRecursion (λ s. (m : ℕ) → s.prices m ≤ 10000000) (sessions_of w h)
 prices-limited w [] l = tt
-prices-limited w (e ∷ h) l = by (written e) (prices-limited w h l.1)
-  where
-    by : (o : Option Amounts) → AllByRecursion (λ s. (m : ℕ) → s.prices m ≤ 10000000) (sessions_of w h)
-        → AllByRecursion (λ s. (m : ℕ) → s.prices m ≤ 10000000) (added w h o (sessions_of w h))
-    by None f = f
-    by (Some c) f = (price-limited w h l.1, f)
+prices-limited w (Closed c ∷ h) l = (price-limited w h l.1, prices-limited w h l.1)
+prices-limited w (e ∷ h) l = prices-limited w h l.1
 
 -- with no session open the latest session is the latest that was closed
 pub closed-latest : (w : World) (h : History) → Lawful w h → open_session h ≡ None → latest_opened h ≡ latest_closed w h

@@ -9,9 +9,11 @@ use Rattle.pricing.specs.Pricing.{days_to}
 use Rattle.rates.specs.Layers.{or_else}
 use Rattle.interest.proofs.Bounds.{trade-price-least, trade-price-most}
 use Rattle.amounts.specs.declared.trades.Trade.{Trade}
+use Rattle.amounts.specs.Trades.{Limited}
 use Rattle.settlement.specs.World.{World}
-use Rattle.settlement.specs.History.{History, Listed, Published, Arbitrated, Traded, rated, traded, gather, newest}
+use Rattle.settlement.specs.History.{History, Listed, Closed, Published, Arbitrated, Traded, rated, traded, gather, newest}
 use Rattle.settlement.specs.Observed.{months_of, month_at, rate_on, session_day, trades_of}
+use Rattle.settlement.specs.Sessions.{sessions_of}
 use Rattle.settlement.specs.Rows.{list_rows, publish_rows, arbitrate_rows, trade_rows}
 use Rattle.settlement.specs.Lawful.{Accepts, Lawful}
 use Rattle.settlement.specs.Limits.{TablesLimited, TradesLimited, PricesLimited, RatesLimited, RatesStayLimited}
@@ -32,11 +34,19 @@ months-few w (e ∷ h) l = rw (append-nil (months_of h)) (months-few w h l.1)
 pub tables-limited : TablesLimited
 tables-limited w h l = (accounts-few w h l, months-few w h l)
 
-pub trades-limited : TradesLimited
-trades-limited w h l = record {
+latest-limited : (w : World) (h : History) → Lawful w h → Limited (trades_of h)
+latest-limited w h l = record {
   few = trades-few w h l;
   small = All-weaker (FitsIn h) (λ t. t.quantity ≤ 20000) (λ t f. f.small) (trades_of h) (session-fits w h l);
 }
+
+closed-limited : (w : World) (h : History) → Lawful w h → AllByRecursion (λ s. Limited s.trades) (sessions_of w h)
+closed-limited w [] l = tt
+closed-limited w (Closed c ∷ h) l = (latest-limited w h l.1, closed-limited w h l.1)
+closed-limited w (e ∷ h) l = closed-limited w h l.1
+
+pub trades-limited : TradesLimited
+trades-limited w h l = (latest-limited w h l, closed-limited w h l)
 
 -- the price of a trade
 abbrev pub PricedWithin : Trade → Type 0

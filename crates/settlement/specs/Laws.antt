@@ -5,11 +5,12 @@ use Rattle.calendar.specs.Kinds.{is_session}
 use Rattle.calendar.specs.Spans.{reserve_days, First}
 use Rattle.correction.specs.Gaps.{first_unrated}
 use Rattle.pricing.specs.Pricing.{distance}
+use Rattle.amounts.specs.declared.trades.Trade.{Trade}
 use Rattle.amounts.specs.Sums.{total}
 use Rattle.settlement.specs.Accounts.{account_indices, is_among}
-use Rattle.settlement.specs.History.{History, Amounts, Opened, Closed, Paid, written, is_payment, is_close, gather, newest, since, before}
+use Rattle.settlement.specs.History.{History, Amounts, Opened, Traded, Closed, Paid, written, is_payment, is_close, gather, newest, since, before}
 use Rattle.settlement.specs.Lawful.{Lawful}
-use Rattle.settlement.specs.Observed.{months_of, month_at, expiry_at, rate_on, opened_days, latest_opened, open_session, next_from}
+use Rattle.settlement.specs.Observed.{months_of, month_at, expiry_at, rate_on, opened_days, latest_opened, session_day, open_session, next_from}
 use Rattle.settlement.specs.Positions.{position_of, carried_of, written_for, due_of}
 use Rattle.settlement.specs.Sessions.{sessions_of, oldest_day, newest_day}
 use Rattle.settlement.specs.World.{World}
@@ -39,6 +40,10 @@ abbrev pub MonthsApart : Type 0
 MonthsApart = (w : World) (h : History) (d m : ℕ) → Lawful w h → open_session h ≡ Some d → m < length (months_of h)
     → d < expiry_at w h m → 1 ≤ distance d (month_at h m)
 
+-- so the month of an accepted trade is a later month than the session's
+abbrev pub TradesApart : Type 0
+TradesApart = (w : World) (h : History) (t : Trade) → Lawful w (Traded t ∷ h) → 1 ≤ distance (session_day h) (month_at h t.month)
+
 -- a month listed since the latest close carries nothing into the session; before the first close none does
 abbrev pub LateCarriesNothing : Type 0
 LateCarriesNothing = (w : World) (h : History) (a m : ℕ) → Lawful w h → length (months_of (before is_close h)) ≤ m → carried_of w h a m ≡ pos 0
@@ -51,7 +56,7 @@ OneUnpaid = (w : World) (h : History) → Lawful w h → length (gather written 
 abbrev pub ClosesPaid : Type 0
 ClosesPaid = (w : World) (h : History) (c : Amounts) → Lawful w (Closed c ∷ h) → gather written (since is_payment h) ≡ []
 
--- until an unpaid close is paid, and so for ever where its slip was written off, nothing closes and what is due stays
+-- until a payment, and so for ever where the slip is not there any more to be paid, nothing closes and what is due stays
 abbrev pub UnpaidStays : Type 0
 UnpaidStays = (w : World) (k h : History) → Lawful w (k ++ h) → is_some (newest written (since is_payment h)) ≡ true → AllByRecursion (λ e. is_payment e ≡ false) k
     → (gather written k ≡ []) × ((a : ℕ) → due_of (k ++ h) a ≡ due_of h a)
@@ -73,6 +78,7 @@ pub record LawsHold : Type 0 where
   pub balance : PositionsBalance
   pub expiry : ExpiryMet
   pub apart : MonthsApart
+  pub trades : TradesApart
   pub late : LateCarriesNothing
   pub unpaid : OneUnpaid
   pub paid : ClosesPaid

@@ -19,9 +19,9 @@ TablesLimited = (w : World) (h : History) → Lawful w h → (length (accounts_o
 abbrev pub PositionsLimited : Type 0
 PositionsLimited = (w : World) (h : History) (a m : ℕ) → Lawful w h → unsigned_abs (position_of w h a m) ≤ 500000
 
--- the session has at most 256 trades, of at most 20,000 contracts each
+-- every session has at most 256 trades, of at most 20,000 contracts each
 abbrev pub TradesLimited : Type 0
-TradesLimited = (w : World) (h : History) → Lawful w h → Limited (trades_of h)
+TradesLimited = (w : World) (h : History) → Lawful w h → Limited (trades_of h) × AllByRecursion (λ s. Limited s.trades) (sessions_of w h)
 
 -- settlement prices are at most 10,000,000, the prices of trades from 1 to 10,000,000
 pub record PricesWithin (w : World) (h : History) : Type 0 where

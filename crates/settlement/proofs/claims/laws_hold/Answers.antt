@@ -1,5 +1,5 @@
 use Rattle.settlement.proofs.claims.laws_hold.Goals as goal
-use Rattle.settlement.proofs.Apart.{months-apart}
+use Rattle.settlement.proofs.Apart.{months-apart, trades-apart}
 use Rattle.settlement.proofs.Balancing.{positions-balance}
 use Rattle.settlement.proofs.Days.{closed-days, closes-few, opened-sessions}
 use Rattle.settlement.proofs.Dues.{dues-move, pays-latest, unpaid-stays}
@@ -28,6 +28,7 @@ returns-clause-laws c = record {
   balance = positions-balance;
   expiry = expiry-met;
   apart = months-apart;
+  trades = trades-apart;
   late = late-carries-nothing;
   unpaid = one-unpaid;
   paid = closes-paid;
