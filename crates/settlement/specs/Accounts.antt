@@ -12,9 +12,10 @@ abbrev pub is_among : {X : Type 0} → (X → X → Bool) → X → List X → B
 is_among same x [] = false
 is_among same x (y ∷ ys) = same x y || is_among same x ys
 
--- a book holds at most 32 accounts and 16 months: their indices
+-- the indices of accounts: a book holds at most 32
 abbrev pub account_indices : List ℕ
 account_indices = range_with_len 0 32
 
+-- the indices of months: at most 16
 abbrev pub month_indices : List ℕ
 month_indices = range_with_len 0 16

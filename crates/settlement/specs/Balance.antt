@@ -8,11 +8,13 @@ use Rattle.settlement.specs.Lawful.{Lawful}
 use Rattle.settlement.specs.Positions.{written_for, due_of, paid_of}
 use Rattle.settlement.specs.World.{World}
 
+-- sums over what closes wrote
 pub record Balanced (h : History) : Type 0 where
   -- what a close wrote for a month adds to zero over the accounts
   pub closes : AllByRecursion (λ c. (m : ℕ) → total (λ a. c.adjustments a m) account_indices ≡ pos 0) (gather written h)
   -- paid and due of an account are all that was written for it
   pub accounts : (a : ℕ) → paid_of h a +ℤ due_of h a ≡ total (written_for a) (gather written h)
 
+-- every lawful history is balanced
 abbrev pub AlwaysBalanced : Type 0
 AlwaysBalanced = (w : World) (h : History) → Lawful w h → Balanced h

@@ -44,10 +44,11 @@ two_months = Opened 9860 ∷ Listed 326 ∷ Listed 325 ∷ with_clients 3
 abbrev pub closed_once : History
 closed_once = Closed (both (pos 0)) ∷ Marked 1 9800000 ∷ Marked 0 9900000 ∷ two_months
 
--- a paper of the book, for a session
+-- a paper of the book for a session
 abbrev pub of_day : ℕ → Paper
 of_day day = record { number = 1; day = day }
 
+-- a paper of another book for a session of that day
 abbrev pub of_another_book : ℕ → Paper
 of_another_book day = record { number = 2; day = day }
 
@@ -67,9 +68,11 @@ rate_in month rate = trade_rows weekdays (session_with 9860 month) (of_day 9860)
 abbrev pub after_trades : History → Trade → List Row
 after_trades trades t = trade_rows weekdays (trades ++ session_with 9860 325) (of_day 9860) t
 
+-- a trade by this ticket
 abbrev pub by_ticket : Paper → History → List Row
 by_ticket ticket h = trade_rows weekdays h ticket (between 0 1 10000 1)
 
+-- 32 accounts, and one that is there
 abbrev pub enter_edges : List (List Row × Option Refusal)
 enter_edges =
     (enter_rows (with_clients 31) (client 31), None)
@@ -80,6 +83,7 @@ enter_edges =
     ∷ (enter_rows (with_clients 1) (record { client = 0; participant = 1; member = 2 }), None)
     ∷ []
 
+-- 16 months, one that is there, and expiries that are missing or past
 abbrev pub list_edges : List (List Row × Option Refusal)
 list_edges =
     (list_rows weekdays (map Listed (range_with_len 324 15)) 400, None)
@@ -98,6 +102,7 @@ list_edges =
     ∷ (list_rows weekdays (Opened 9862 ∷ []) 324, Some NoExpiry)
     ∷ []
 
+-- the horizon, days with rates, the highest rate, the period
 abbrev pub publish_edges : List (List Row × Option Refusal)
 publish_edges =
     (publish_rows weekdays [] 9859 1 1, Some OutsideHorizon)
@@ -113,6 +118,7 @@ publish_edges =
     ∷ (publish_rows weekdays [] 9860 1 2, Some BadPeriod)
     ∷ []
 
+-- the horizon, days with rates, the highest rate, 16 days
 abbrev pub arbitrate_edges : List (List Row × Option Refusal)
 arbitrate_edges =
     (arbitrate_rows weekdays [] 9859 1, Some OutsideHorizon)
@@ -125,6 +131,7 @@ arbitrate_edges =
     ∷ (arbitrate_rows (arbitrated_before 16) [] 9861 1, Some ArbitrationFull)
     ∷ []
 
+-- an open session, and sixty days without one
 abbrev pub open_edges : List (List Row × Option Refusal)
 open_edges =
     (open_rows weekdays [], None)
@@ -138,6 +145,7 @@ open_edges =
     ∷ (open_rows (only_session 9921) closed_once, Some NoSession)
     ∷ []
 
+-- tickets, indices, expiries, sides, quantities, rates, days, positions, trades
 abbrev pub trade_edges : List (List Row × Option Refusal)
 trade_edges =
     (by_ticket (of_day 9860) two_months, None)
@@ -179,6 +187,7 @@ trade_edges =
     ∷ (after_trades (dealt 256 1) (between 0 1 10000 1), Some SessionFull)
     ∷ []
 
+-- tickets, indices, expiries, prices
 abbrev pub mark_edges : List (List Row × Option Refusal)
 mark_edges =
     (mark_rows weekdays two_months (of_another_book 9860) 0 1, Some NotCurrent)
@@ -192,6 +201,7 @@ mark_edges =
     ∷ (mark_rows weekdays two_months (of_day 9860) 0 10000001, Some BadPrice)
     ∷ []
 
+-- tickets, slips, marks, rates, arrays
 abbrev pub close_edges : List (List Row × Option Refusal)
 close_edges =
     (close_rows weekdays two_months (of_another_book 9860) 6 6, Some NotCurrent)
@@ -219,6 +229,7 @@ close_edges =
     ∷ (close_rows weekdays (Marked 1 1 ∷ Marked 0 1 ∷ two_months) (of_day 9860) 6 5, Some ArrayShort)
     ∷ []
 
+-- slips, and the session after
 abbrev pub pay_edges : List (List Row × Option Refusal)
 pay_edges =
     (pay_rows weekdays (Opened 9861 ∷ closed_once) (of_day 9860), None)
@@ -229,6 +240,7 @@ pay_edges =
     ∷ (pay_rows weekdays closed_once (of_day 9860), Some NoLaterSession)
     ∷ []
 
+-- indices of a position and of a balance
 abbrev pub question_edges : List (List Row × Option Refusal)
 question_edges =
     (position_rows two_months 2 1, None)
@@ -238,6 +250,7 @@ question_edges =
     ∷ (balance_rows two_months 3, Some NoSuchIndex)
     ∷ []
 
+-- each table gives what stands beside it
 pub record EdgesHold : Type 0 where
   pub enter : Give enter_edges
   pub list : Give list_edges

@@ -76,6 +76,7 @@ run_history =
 abbrev pub amounts_of : ℕ → History → List ℤ
 amounts_of a h = map (λ c. c.adjustments a 0) (gather written h)
 
+-- it is lawful, and account 1 gets 610, −800 and 190, account 0 the opposite
 abbrev pub RunHolds : Type 0
 RunHolds =
     Lawful run_world run_history

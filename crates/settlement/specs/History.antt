@@ -26,15 +26,18 @@ pub data Event : Type 0 where
   Closed : Amounts → Event
   Paid : Event
 
+-- the newest first
 abbrev pub History : Type 0
 History = List Event
 
 -- What an event tells, for each thing that is asked of a history.
 
+-- the account that was added
 abbrev pub entered : Event → Option Account
 entered (Entered x) = Some x
 entered e = None
 
+-- the month that was added
 abbrev pub listed : Event → Option ℕ
 listed (Listed n) = Some n
 listed e = None
@@ -50,10 +53,12 @@ abbrev pub arbitrated : Event → Option ℕ
 arbitrated (Arbitrated d r) = Some d
 arbitrated e = None
 
+-- the session that was opened
 abbrev pub opened : Event → Option ℕ
 opened (Opened d) = Some d
 opened e = None
 
+-- the trade that was accepted
 abbrev pub traded : Event → Option Trade
 traded (Traded t) = Some t
 traded e = None
@@ -68,18 +73,22 @@ abbrev pub written : Event → Option Amounts
 written (Closed c) = Some c
 written e = None
 
+-- a payment
 abbrev pub is_payment : Event → Bool
 is_payment Paid = true
 is_payment e = false
 
+-- a session was opened
 abbrev pub is_opening : Event → Bool
 is_opening e = is_some (opened e)
 
+-- a session was closed
 abbrev pub is_close : Event → Bool
 is_close e = is_some (written e)
 
 -- How a history is looked through.
 
+-- none or one, as a list
 abbrev pub list_of : {X : Type 0} → Option X → List X
 list_of None = []
 list_of (Some x) = x ∷ []
@@ -94,11 +103,12 @@ abbrev pub newest : {X : Type 0} → (Event → Option X) → History → Option
 newest tells [] = None
 newest tells (e ∷ h) = or_else (tells e) (newest tells h)
 
--- what happened since the newest event of a kind, and what happened before it
+-- what happened since the newest event of a kind; all of it where there is none
 abbrev pub since : (Event → Bool) → History → History
 since kind [] = []
 since kind (e ∷ h) = cond (kind e) [] (e ∷ since kind h)
 
+-- what happened before the newest event of a kind; nothing where there is none
 abbrev pub before : (Event → Bool) → History → History
 before kind [] = []
 before kind (e ∷ h) = cond (kind e) h (before kind h)

@@ -31,6 +31,7 @@ pub record Imported (w : World) (h : History) (ticket : Paper) (lines : List Tra
   pub refused : refusal ≡ refusal_at w (after_lines w h (take taken lines)) ticket (drop taken lines)
   pub whole : refusal ≡ None → taken ≡ length lines
 
+-- laws of imports
 pub record ImportsHold : Type 0 where
   -- every import comes to something, and to one thing only
   pub some : (w : World) (h : History) (ticket : Paper) (lines : List Trade) → (taken : ℕ) × (refusal : Option Refusal) × Imported w h ticket lines taken refusal

@@ -51,6 +51,7 @@ Accepts w h (Marked m p) = (ticket : Paper) × Allowed (mark_rows w h ticket m p
 Accepts w h (Closed c) = Closes w h c
 Accepts w h Paid = (slip : Paper) × Allowed (pay_rows w h slip)
 
+-- each event was accepted after those before it
 abbrev pub Lawful : World → History → Type 0
 Lawful w [] = Unit {0}
 Lawful w (e ∷ h) = Accepts w h e × Lawful w h

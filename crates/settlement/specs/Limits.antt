@@ -32,6 +32,7 @@ pub record PricesWithin (w : World) (h : History) : Type 0 where
   -- of all trades so far
   pub dealt : AllByRecursion (λ t. (1 ≤ t.price) × (t.price ≤ 10000000)) (gather traded h)
 
+-- so in every lawful history
 abbrev pub PricesLimited : Type 0
 PricesLimited = (w : World) (h : History) → Lawful w h → PricesWithin w h
 
@@ -69,6 +70,7 @@ pub record DuesWithin (h : History) (a : ℕ) : Type 0 where
   -- paid and due are of all closes together
   pub together : unsigned_abs (paid_of h a) + unsigned_abs (due_of h a) ≤ length (gather written h) * 160000000000000
 
+-- so over a world of such rates
 abbrev pub DuesLimited : Type 0
 DuesLimited = (w : World) (h : History) (a : ℕ) → RatesLimited w.rates → Lawful w h → DuesWithin h a
 

@@ -9,9 +9,11 @@ use Rattle.settlement.specs.Rows.{Paper, enter_rows, list_rows, publish_rows, ar
 use Rattle.settlement.specs.Sheets.{import_rows, write_rows}
 use Rattle.settlement.specs.World.{World}
 
+-- the numbers of rows, in order
 abbrev pub numbers_of : List Row → List ℕ
 numbers_of rows = map (λ row. refusal_number row.1) rows
 
+-- of each call
 pub record RowsNumbered : Type 0 where
   pub enter : (h : History) (x : Account) → numbers_of (enter_rows h x) ≡ 18 ∷ 19 ∷ []
   pub list : (w : World) (h : History) (n : ℕ) → numbers_of (list_rows w h n) ≡ 18 ∷ 19 ∷ 20 ∷ []

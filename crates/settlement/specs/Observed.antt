@@ -9,23 +9,27 @@ use Rattle.settlement.specs.declared.accounts.Account.{Account}
 use Rattle.settlement.specs.World.{World}
 use Rattle.settlement.specs.History.{History, entered, listed, rated, opened, traded, marked, written, is_opening, gather, newest, since}
 
--- the accounts and the numbers of the months, by their indices
+-- the accounts, by their indices
 abbrev pub accounts_of : History → List Account
 accounts_of h = gather entered h
 
+-- the numbers of the months, by their indices
 abbrev pub months_of : History → List ℕ
 months_of h = gather listed h
 
+-- the book has an account of this index
 abbrev pub is_account : History → ℕ → Bool
 is_account h a = nat_lt a (length (accounts_of h))
 
+-- the book has a month of this index
 abbrev pub is_listed : History → ℕ → Bool
 is_listed h m = nat_lt m (length (months_of h))
 
--- the number of the month with an index, and its expiry; of an index that is not listed, those of month 0, on which nothing rests
+-- the number of the month with an index; 0 for an index that is not listed, on which nothing rests
 abbrev pub month_at : History → ℕ → ℕ
 month_at h m = slice_index (months_of h) m
 
+-- the expiry of the month with an index
 abbrev pub expiry_at : World → History → ℕ → ℕ
 expiry_at w h m = expiry_day w.kinds (month_at h m)
 
@@ -33,13 +37,15 @@ expiry_at w h m = expiry_day w.kinds (month_at h m)
 abbrev pub rate_on : World → History → ℕ → Option ℕ
 rate_on w h d = or_else (newest (rated d) h) (w.rates d)
 
--- the sessions opened so far, and the latest of them, open or closed; its day is 0 before the first
+-- the sessions opened so far
 abbrev pub opened_days : History → List ℕ
 opened_days h = gather opened h
 
+-- the latest of them, open or closed
 abbrev pub latest_opened : History → Option ℕ
 latest_opened h = newest opened h
 
+-- its day, 0 before the first
 abbrev pub session_day : History → ℕ
 session_day h = unwrap_or (latest_opened h) 0
 

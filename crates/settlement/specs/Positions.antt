@@ -40,9 +40,10 @@ adjustment_at w h a m =
 abbrev pub written_for : ℕ → Amounts → ℤ
 written_for a c = total (c.adjustments a) month_indices
 
--- due is what closes wrote since the latest payment, paid what they wrote before it, in centavos
+-- due: what closes wrote since the latest payment, in centavos
 abbrev pub due_of : History → ℕ → ℤ
 due_of h a = total (written_for a) (gather written (since is_payment h))
 
+-- paid: what closes wrote before the latest payment, in centavos
 abbrev pub paid_of : History → ℕ → ℤ
 paid_of h a = total (written_for a) (gather written (before is_payment h))

@@ -34,6 +34,7 @@ is_of w p (Some d) = p.number == w.number && p.day == d
 abbrev pub naming : (ℕ → Refusal) → Option ℕ → Row
 naming refusal found = (is_some found, refusal (unwrap_or found 0))
 
+-- the ticket is not of the open session
 abbrev pub ticket_row : World → History → Paper → Row
 ticket_row w h ticket = (not (is_of w ticket (open_session h)), NotCurrent)
 
@@ -41,6 +42,7 @@ ticket_row w h ticket = (not (is_of w ticket (open_session h)), NotCurrent)
 abbrev pub expired_row : World → History → ℕ → Row
 expired_row w h m = (nat_le (expiry_at w h m) (session_day h), Expired)
 
+-- an account
 abbrev pub enter_rows : History → Account → List Row
 enter_rows h x =
     (nat_le 32 (length (accounts_of h)), TableFull)
@@ -52,6 +54,7 @@ abbrev pub lacks_expiry : World → History → Option ℕ → Bool
 lacks_expiry w h None = true
 lacks_expiry w h (Some expiry) = nat_le expiry w.start || nat_le expiry (session_day h)
 
+-- a month, by its number
 abbrev pub list_rows : World → History → ℕ → List Row
 list_rows w h n =
     (nat_le 16 (length (months_of h)), TableFull)
@@ -59,13 +62,16 @@ list_rows w h n =
     ∷ (lacks_expiry w h (expiry_of w.kinds n), NoExpiry)
     ∷ []
 
+-- a day, a rate and a period in reserve days
 abbrev pub publish_rows : World → History → ℕ → ℕ → ℕ → List Row
 publish_rows w h day rate period = publishing.publish_rows w.horizon (rate_on w h day) day rate period
 
+-- a day and a rate
 abbrev pub arbitrate_rows : World → History → ℕ → ℕ → List Row
 arbitrate_rows w h day rate =
     layers.arbitrate_rows w.horizon (rate_on w h day) day rate (w.arbitrated + length (gather arbitrated h))
 
+-- the next session
 abbrev pub open_rows : World → History → List Row
 open_rows w h =
     (is_some (open_session h), SessionOpen)
@@ -90,6 +96,7 @@ trade_rows w h ticket t =
     ∷ (nat_le 256 (length (trades_of h)), SessionFull)
     ∷ []
 
+-- the index of a month and a price
 abbrev pub mark_rows : World → History → Paper → ℕ → ℕ → List Row
 mark_rows w h ticket m price =
     ticket_row w h ticket
@@ -98,10 +105,11 @@ mark_rows w h ticket m price =
     ∷ (price == 0 || nat_lt 10000000 price, BadPrice)
     ∷ []
 
--- a month that expires after the session and has no mark, and the lowest such index
+-- a month that expires after the session and has no mark
 abbrev pub is_unmarked : World → History → ℕ → Bool
 is_unmarked w h m = nat_lt (session_day h) (expiry_at w h m) && not (is_some (mark_of h m))
 
+-- the lowest index of such a month
 abbrev pub first_unmarked : World → History → Option ℕ
 first_unmarked w h = first_in (filter (is_unmarked w h) (range_with_len 0 (length (months_of h))))
 
@@ -119,15 +127,18 @@ close_rows w h ticket adjustments day_trades =
     ∷ (nat_lt adjustments (cells_of h) || nat_lt day_trades (cells_of h), ArrayShort)
     ∷ []
 
+-- a payment by a slip
 abbrev pub pay_rows : World → History → Paper → List Row
 pay_rows w h slip =
     (not (is_of w slip (unpaid_day w h)), NotCurrent)
     ∷ (not (is_some (open_session h)), NoLaterSession)
     ∷ []
 
+-- the position of an account in a month
 abbrev pub position_rows : History → ℕ → ℕ → List Row
 position_rows h a m = (not (is_account h a && is_listed h m), NoSuchIndex) ∷ []
 
+-- what is paid and due of an account
 abbrev pub balance_rows : History → ℕ → List Row
 balance_rows h a = (not (is_account h a), NoSuchIndex) ∷ []
 
@@ -136,9 +147,10 @@ abbrev pub with_paper : Paper → Option Refusal → Option (Refusal × Paper)
 with_paper paper None = None
 with_paper paper (Some refusal) = Some (refusal, paper)
 
--- what a refused close and a refused payment answer
+-- what a refused close answers: the refusal and the ticket
 abbrev pub close_refused : World → History → Paper → ℕ → ℕ → Option (Refusal × Paper)
 close_refused w h ticket adjustments day_trades = with_paper ticket (first_row (close_rows w h ticket adjustments day_trades))
 
+-- what a refused payment answers: the refusal and the slip
 abbrev pub pay_refused : World → History → Paper → Option (Refusal × Paper)
 pay_refused w h slip = with_paper slip (first_row (pay_rows w h slip))

@@ -35,15 +35,17 @@ latest_closed w h = first_in (map (λ s. s.day) (sessions_of w h))
 abbrev pub unpaid_day : World → History → Option ℕ
 unpaid_day w h = cond (is_some (newest written (since is_payment h))) (latest_closed w h) None
 
--- the day of the oldest of sessions, of which the newest comes first, else d; the day of the newest, and its price of a month
+-- the day of the oldest of sessions, of which the newest comes first; d where there is none
 abbrev pub oldest_day : ℕ → List Session → ℕ
 oldest_day d [] = d
 oldest_day d (s ∷ ss) = oldest_day s.day ss
 
+-- the day of the newest; 0 where there is none
 abbrev pub newest_day : List Session → ℕ
 newest_day [] = 0
 newest_day (s ∷ ss) = s.day
 
+-- the price of a month in the newest; 0 where there is none
 abbrev pub newest_price : ℕ → List Session → ℕ
 newest_price m [] = 0
 newest_price m (s ∷ ss) = s.prices m

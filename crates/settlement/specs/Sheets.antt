@@ -18,6 +18,7 @@ use Rattle.settlement.specs.Observed.{months_of, is_listed, session_day, open_se
 use Rattle.settlement.specs.Rows.{Paper, is_of, trade_rows}
 use Rattle.settlement.specs.World.{World}
 
+-- the same bytes in the same order
 abbrev pub same_bytes : List ℕ → List ℕ → Bool
 same_bytes [] [] = true
 same_bytes [] (y ∷ ys) = false
@@ -28,6 +29,7 @@ same_bytes (x ∷ xs) (y ∷ ys) = x == y && same_bytes xs ys
 abbrev pub is_code : List ℕ → Bool
 is_code bytes = nat_le (month_of bytes) last_month && same_bytes bytes (code_bytes (month_of bytes))
 
+-- each element passes a test
 abbrev pub is_each : {X : Type 0} → (X → Bool) → List X → Bool
 is_each test [] = true
 is_each test (x ∷ xs) = test x && is_each test xs

@@ -47,13 +47,15 @@ held_over scale a m ss days = sum_by (λ d. held_on a m ss d * scale (d + 1)) da
 abbrev pub counted_of : World → History → ℕ → List Session
 counted_of w h m = up_to (expiry_at w h m) (sessions_of w h)
 
--- the day of the book's first closed session, and of the month's last
+-- the day of the book's first closed session
 abbrev pub first_closed : World → History → ℕ
 first_closed w h = oldest_day 0 (sessions_of w h)
 
+-- the day of the month's last closed session
 abbrev pub last_closed : World → History → ℕ → ℕ
 last_closed w h m = newest_day (counted_of w h m)
 
+-- what an amount of a day is multiplied by
 abbrev pub scale_in : World → History → ℕ → ℕ → ℕ
 scale_in w h m = scale_of w.kinds (rate_on w h) (first_closed w h) (last_closed w h m)
 
@@ -68,11 +70,13 @@ abbrev pub tolerance_of : World → History → ℕ → ℕ → ℕ
 tolerance_of w h a m =
     10 * held_over (scale_in w h m) a m (counted_of w h m) (reserve_days w.kinds (first_closed w h) (last_closed w h m))
 
+-- the claim
 pub record Valued (w : World) (h : History) : Type 0 where
   -- of each account, in each listed month
   pub near : (a m : ℕ) → m < length (months_of h) → apart_of w h a m ≤ tolerance_of w h a m
   -- after the expiry all adjustments are 0
   pub over : (a m : ℕ) → m < length (months_of h) → AllByRecursion (λ s. expiry_at w h m < s.day → s.amounts.adjustments a m ≡ pos 0) (sessions_of w h)
 
+-- it holds of every lawful history
 abbrev pub AlwaysValued : Type 0
 AlwaysValued = (w : World) (h : History) → Lawful w h → Valued w h

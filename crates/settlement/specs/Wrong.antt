@@ -65,6 +65,7 @@ book_of p = wrong_history p.0 p.1
 abbrev pub OutsideTolerance : ℤ × ℤ → Type 0
 OutsideTolerance p = tolerance_of wrong_world (book_of p) 1 0 < apart_of wrong_world (book_of p) 1 0
 
+-- the claims hold of the right book, and the second of no wrong one
 pub record WrongCaught : Type 0 where
   -- the right amounts are lawful, so that both claims hold of them
   pub right : Lawful wrong_world right_history
