@@ -59,6 +59,7 @@ fn a_month_to_its_end(rt: HostRuntime) -> Result<(), Fail> {
             -10,
             Ok(-190),
         ),
+        (settled(9_860, 0), 9_861, 9_992_500, 1, 1, 10, Ok(610)),
         (settled(9_865, 10_000_000), 9_866, 0, 0, 1, 0, Err(missing)),
         (None, 9_860, 1, 1, 1, 500_011, Err(Unsettled::OutOfRange)),
         (None, 9_860, 0, 1, 1, 500_010, Ok(-99_924_390)),
