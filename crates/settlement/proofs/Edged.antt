@@ -17,6 +17,8 @@ edges-hold = record {
   close = refl;
   pay = refl;
   questions = refl;
+  line = refl;
+  unlisted_line = refl;
   ticket_back = refl;
   slip_back = refl;
 }

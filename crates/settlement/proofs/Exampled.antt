@@ -18,7 +18,7 @@ use Rattle.settlement.specs.Positions.{adjustment_at}
 use Rattle.settlement.specs.Rows.{Paper, cells_of, close_rows}
 use Rattle.settlement.specs.Lawful.{Allowed, Closes, InBook, Lawful}
 use Rattle.settlement.proofs.Monthly.{december}
-use Rattle.settlement.specs.Examples.{table, rows_of, run_world, run_history, RunHolds, full_world, full_history, FullHolds}
+use Rattle.settlement.specs.Examples.{table, rows_of, run_world, run_history, RunHolds, RunSeen, full_world, full_history, FullHolds}
 
 -- what the proofs compute with
 unfoldable pub figures : Unit {0}
@@ -71,16 +71,16 @@ closes w h day ok = record {
 -- ---- a month to its end
 
 -- up to the first close, the newest event first
-run-first : Lawful run_world (drop 10 run_history)
+run-first : Lawful run_world (drop 11 run_history)
 unfolding figures
 run-first =
-    (closes run_world (drop 11 run_history) 9860 refl, ((paper 9860, refl), (((paper 9860, rw december), refl), (refl, ((refl, refl), (refl, (refl, (refl, tt))))))))
+    (closes run_world (drop 12 run_history) 9860 refl, ((paper 9860, refl), (((paper 9860, rw december), refl), (refl, ((refl, refl), (refl, (refl, (refl, tt))))))))
 
 -- up to the second
 run-second : Lawful run_world (drop 5 run_history)
 unfolding figures
 run-second =
-    (closes run_world (drop 6 run_history) 9861 refl, ((paper 9861, refl), ((paper 9860, refl), (refl, ((refl, refl), run-first)))))
+    (closes run_world (drop 6 run_history) 9861 refl, ((paper 9861, refl), ((paper 9861, refl), ((paper 9860, refl), (refl, ((refl, refl), run-first))))))
 
 -- all of it
 run-lawful : Lawful run_world run_history
@@ -89,7 +89,15 @@ run-lawful =
     ((paper 9865, refl), ((refl, refl), (closes run_world (drop 3 run_history) 9865 refl, ((paper 9861, refl), ((refl, refl), run-second)))))
 
 pub run_holds : RunHolds
-run_holds = (run-lawful, refl, refl)
+unfolding figures
+run_holds = (run-lawful, refl, refl, refl)
+
+pub run-seen : RunSeen
+unfolding figures
+run-seen = record {
+  first = record { lawful = run-first.1; session = refl; calendar = refl; source = refl; latest = refl; price = refl; dealt = refl; held = refl };
+  second = record { lawful = run-second.1; session = refl; calendar = refl; source = refl; latest = (refl, inl refl); price = refl; dealt = refl; held = refl };
+}
 
 -- ---- the tolerance used to the full
 

@@ -1,8 +1,10 @@
 -- A lawful history in which more happens: day trades, an account and a month that come late, an arbitrated rate, and an expiry beside a month that goes on, with a session after it.
-use Rattle.std.specs.Prelude.{◌≡◌, List, [], ◌∷◌, map, ℤ, pos, neg_ℤ}
+use Rattle.std.specs.Prelude.{◌≡◌, List, [], ◌∷◌, map, drop, ℤ, pos, neg_ℤ, Some}
 use Rattle.settlement.specs.Examples.{client, table, rows_of, run_world}
 use Rattle.settlement.specs.History.{History, Entered, Listed, Published, Arbitrated, Opened, Traded, Marked, Closed, Paid, written, gather}
+use Rattle.settlement.specs.Closing.{Seen}
 use Rattle.settlement.specs.Lawful.{Lawful}
+use Rattle.settlement.specs.Observed.{rate_on, trades_of}
 use Rattle.settlement.specs.Positions.{position_of, due_of, paid_of}
 use Rattle.settlement.specs.World.{World}
 
@@ -62,6 +64,12 @@ busy_history =
     ∷ Entered (client 10)
     ∷ []
 
+-- what the second close knows of account 1 in January, which was listed since the first: it carries nothing, so its latest price may be any
+abbrev pub JanuarySeen : Type 0
+JanuarySeen =
+    Seen busy_world (drop 10 busy_history) busy_world.kinds (rate_on busy_world (drop 10 busy_history))
+    (record { latest = Some (record { day = 9860; price = 0 }); day = 9861; price = 9994500 }) (trades_of (drop 10 busy_history)) 1 1 (neg_ℤ (pos 3))
+
 -- all of it in rows of accounts with columns of months
 pub record BusyHolds : Type 0 where
   pub lawful : Lawful busy_world busy_history
@@ -85,3 +93,5 @@ pub record BusyHolds : Type 0 where
   -- of account 0: 2,342 − 1,658 − 36, and what the last close wrote
   pub paid : paid_of busy_history 0 ≡ pos 648
   pub due : due_of busy_history 0 ≡ neg_ℤ (pos 66)
+  -- what the second close knows
+  pub seen : JanuarySeen

@@ -10,6 +10,7 @@ use Rattle.amounts.specs.declared.trades.Trade.{Trade}
 use Rattle.settlement.specs.Examples.{book_over, client, both}
 use Rattle.settlement.specs.History.{History, Entered, Listed, Published, Arbitrated, Opened, Traded, Marked, Closed, Paid}
 use Rattle.settlement.specs.Rows.{Paper, enter_rows, list_rows, publish_rows, arbitrate_rows, open_rows, trade_rows, mark_rows, close_rows, pay_rows, position_rows, balance_rows, close_refused, pay_refused}
+use Rattle.settlement.specs.Sheets.{line_trade}
 use Rattle.settlement.specs.World.{World}
 
 -- each of the tables gives the refusal beside it, or none
@@ -24,6 +25,10 @@ weekdays = book_over []
 abbrev pub arbitrated_before : ℕ → World
 arbitrated_before n = record { number = 1; start = 9860; kinds = weekdays.kinds; horizon = weekdays.horizon; rates = weekdays.rates; arbitrated = n }
 
+-- so, where each day has the rate of 10 % before
+abbrev pub rated_before : World
+rated_before = record { number = 1; start = 9860; kinds = weekdays.kinds; horizon = weekdays.horizon; rates = λ d. Some 10000000; arbitrated = 0 }
+
 -- one day is a session, and all others are closed
 abbrev pub only_session : ℕ → World
 only_session day = record { number = 1; start = 9860; kinds = λ d. cond (d == day) kinds.Session kinds.Closed; horizon = weekdays.horizon; rates = weekdays.rates; arbitrated = 0 }
@@ -32,9 +37,9 @@ only_session day = record { number = 1; start = 9860; kinds = λ d. cond (d == d
 abbrev pub with_clients : ℕ → History
 with_clients n = map (λ i. Entered (client i)) (range_with_len 0 n)
 
--- three accounts and one month, in a session
+-- three accounts and two months, in a session: May 2033 and another
 abbrev pub session_with : ℕ → ℕ → History
-session_with day month = Opened day ∷ Listed month ∷ with_clients 3
+session_with day month = Opened day ∷ Listed month ∷ Listed 400 ∷ with_clients 3
 
 -- three accounts, and the session of 9,860 with February and March 2027 (days 9,893 and 9,921)
 abbrev pub two_months : History
@@ -52,9 +57,9 @@ of_day day = record { number = 1; day = day }
 abbrev pub of_another_book : ℕ → Paper
 of_another_book day = record { number = 2; day = day }
 
--- a trade of two accounts in month 0
+-- a trade of two accounts in month 1
 abbrev pub between : ℕ → ℕ → ℕ → ℕ → Trade
-between buyer seller rate quantity = record { buyer = buyer; seller = seller; month = 0; rate = rate; quantity = quantity; price = 0 }
+between buyer seller rate quantity = record { buyer = buyer; seller = seller; month = 1; rate = rate; quantity = quantity; price = 0 }
 
 -- so many trades, in which account 0 buys in rate from account 1
 abbrev pub dealt : ℕ → ℕ → History
@@ -111,6 +116,7 @@ publish_edges =
     ∷ (publish_rows weekdays [] 9870 1 1, Some OutsideHorizon)
     ∷ (publish_rows weekdays (Published 9860 0 ∷ []) 9860 1 1, Some HasRate)
     ∷ (publish_rows weekdays (Arbitrated 9860 0 ∷ []) 9860 1 1, Some HasRate)
+    ∷ (publish_rows rated_before [] 9860 1 1, Some HasRate)
     ∷ (publish_rows weekdays (Published 9860 0 ∷ []) 9861 1 1, None)
     ∷ (publish_rows weekdays [] 9860 99999999 1, None)
     ∷ (publish_rows weekdays [] 9860 100000000 2, Some RateTooHigh)
@@ -156,7 +162,7 @@ trade_edges =
     ∷ (after_trades [] (between 2 0 10000 1), None)
     ∷ (after_trades [] (between 3 0 10000 1), Some NoSuchIndex)
     ∷ (after_trades [] (between 0 3 10000 1), Some NoSuchIndex)
-    ∷ (after_trades [] (record { buyer = 0; seller = 1; month = 1; rate = 10000; quantity = 1; price = 0 }), Some NoSuchIndex)
+    ∷ (after_trades [] (record { buyer = 0; seller = 1; month = 2; rate = 10000; quantity = 1; price = 0 }), Some NoSuchIndex)
     -- January 2027, which expires on 9,862
     ∷ (trade_rows weekdays (session_with 9861 324) (of_day 9861) (between 0 1 10000 1), None)
     ∷ (trade_rows weekdays (session_with 9862 324) (of_day 9862) (between 0 1 10000 1), Some Expired)
@@ -174,6 +180,8 @@ trade_edges =
     ∷ (rate_in 335 15, None)
     ∷ (rate_in 336 15, Some BadRate)
     ∷ (rate_in 336 20, None)
+    -- three months from January, four from December
+    ∷ (trade_rows weekdays (session_with 9865 327) (of_day 9865) (between 0 1 4 1), None)
     -- September 2036, 2,520 reserve days after 9,865 and 2,521 after 9,862
     ∷ (trade_rows weekdays (session_with 9865 440) (of_day 9865) (between 0 1 10000 1), None)
     ∷ (trade_rows weekdays (session_with 9862 440) (of_day 9862) (between 0 1 10000 1), Some TooFar)
@@ -182,9 +190,12 @@ trade_edges =
     ∷ (after_trades (dealt 25 20000) (between 0 2 10000 1), Some PositionLimit)
     ∷ (after_trades (dealt 25 20000) (between 2 1 10000 1), Some PositionLimit)
     ∷ (after_trades (dealt 25 20000) (between 1 0 10000 1), None)
+    ∷ (after_trades (dealt 25 20000) (record { buyer = 0; seller = 2; month = 0; rate = 10000; quantity = 1; price = 0 }), None)
     -- trades of the session
     ∷ (after_trades (dealt 255 1) (between 0 1 10000 1), None)
     ∷ (after_trades (dealt 256 1) (between 0 1 10000 1), Some SessionFull)
+    -- those of the session before count for nothing
+    ∷ (trade_rows weekdays (Opened 9861 ∷ Closed (both (pos 0)) ∷ (dealt 256 1 ++ session_with 9860 325)) (of_day 9861) (between 0 1 10000 1), None)
     ∷ []
 
 -- tickets, indices, expiries, prices
@@ -195,7 +206,8 @@ mark_edges =
     ∷ (mark_rows weekdays closed_once (of_day 9860) 0 1, Some NotCurrent)
     ∷ (mark_rows weekdays two_months (of_day 9860) 1 1, None)
     ∷ (mark_rows weekdays two_months (of_day 9860) 2 1, Some NoSuchIndex)
-    ∷ (mark_rows weekdays (session_with 9862 324) (of_day 9862) 0 0, Some Expired)
+    ∷ (mark_rows weekdays (session_with 9862 324) (of_day 9862) 1 0, Some Expired)
+    ∷ (mark_rows weekdays (session_with 9862 324) (of_day 9862) 0 1, None)
     ∷ (mark_rows weekdays two_months (of_day 9860) 0 0, Some BadPrice)
     ∷ (mark_rows weekdays two_months (of_day 9860) 0 10000000, None)
     ∷ (mark_rows weekdays two_months (of_day 9860) 0 10000001, Some BadPrice)
@@ -215,12 +227,13 @@ close_edges =
     -- marks of the session before count for nothing
     ∷ (close_rows weekdays (Paid ∷ Opened 9861 ∷ closed_once) (of_day 9861) 6 6, Some (Unmarked 0))
     -- no mark is needed on the expiry
-    ∷ (close_rows weekdays (session_with 9861 324) (of_day 9861) 3 3, Some (Unmarked 0))
-    ∷ (close_rows weekdays (session_with 9862 324) (of_day 9862) 3 3, None)
+    ∷ (close_rows weekdays (Marked 0 1 ∷ session_with 9861 324) (of_day 9861) 6 6, Some (Unmarked 1))
+    ∷ (close_rows weekdays (Marked 0 1 ∷ session_with 9862 324) (of_day 9862) 6 6, None)
     -- the first reserve day of the gap without a rate
     ∷ (close_rows weekdays (Marked 1 1 ∷ Marked 0 1 ∷ Paid ∷ Opened 9862 ∷ closed_once) (of_day 9862) 6 6, Some (MissingRate 9860))
     ∷ (close_rows weekdays (Published 9860 1 ∷ Marked 1 1 ∷ Marked 0 1 ∷ Paid ∷ Opened 9862 ∷ closed_once) (of_day 9862) 6 6, Some (MissingRate 9861))
     ∷ (close_rows weekdays (Published 9861 1 ∷ Published 9860 1 ∷ Marked 1 1 ∷ Marked 0 1 ∷ Paid ∷ Opened 9862 ∷ closed_once) (of_day 9862) 6 6, None)
+    ∷ (close_rows rated_before (Marked 1 1 ∷ Marked 0 1 ∷ Paid ∷ Opened 9862 ∷ closed_once) (of_day 9862) 6 6, None)
     -- with no month too
     ∷ (close_rows weekdays (Paid ∷ Opened 9861 ∷ Closed (both (pos 0)) ∷ Opened 9860 ∷ []) (of_day 9861) 0 0, Some (MissingRate 9860))
     -- three accounts in two months
@@ -262,6 +275,10 @@ pub record EdgesHold : Type 0 where
   pub close : Give close_edges
   pub pay : Give pay_edges
   pub questions : Give question_edges
+  -- a line of a sheet as a trade, in March 2027, 43 reserve days on, and in a month that is not listed
+  pub line : line_trade weekdays two_months (record { buyer = 2; seller = 1; month = 326; rate = 10000; quantity = 7 })
+      ≡ record { buyer = 2; seller = 1; month = 1; rate = 10000; quantity = 7; price = 9838683 }
+  pub unlisted_line : (line_trade weekdays two_months (record { buyer = 2; seller = 1; month = 327; rate = 10000; quantity = 7 })).month ≡ 2
   -- the paper comes back with the refusal
   pub ticket_back : close_refused weekdays two_months (of_another_book 9860) 6 6 ≡ Some (NotCurrent, of_another_book 9860)
   pub slip_back : pay_refused weekdays closed_once (of_day 9860) ≡ Some (NoLaterSession, of_day 9860)

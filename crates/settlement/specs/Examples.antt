@@ -1,5 +1,5 @@
 -- Two lawful histories, and what they come to.
-use Rattle.std.specs.Prelude.{◌≡◌, ℕ, List, [], ◌∷◌, map, length, ℤ, pos, neg_ℤ, None, slice_index_or}
+use Rattle.std.specs.Prelude.{◌≡◌, ℕ, List, [], ◌∷◌, map, length, drop, ℤ, pos, neg_ℤ, Some, None, slice_index_or}
 use Rattle.std.specs.List.{range_with_len}
 use Rattle.calendar.specs.declared.rule.Exception.{Exception}
 use Rattle.calendar.specs.Kinds.{ruled}
@@ -7,9 +7,10 @@ use Rattle.calendar.specs.declared.kind.DayKind.TheVariants.{Closed}
 use Rattle.amounts.specs.declared.trades.Trade.{Trade}
 use Rattle.settlement.specs.declared.accounts.Account.{Account}
 use Rattle.settlement.specs.History.{History, Amounts, Entered, Listed, Published, Opened, Traded, Marked, Closed, Paid, written, gather}
+use Rattle.settlement.specs.Closing.{Seen}
 use Rattle.settlement.specs.Lawful.{Lawful}
-use Rattle.settlement.specs.Observed.{accounts_of, months_of}
-use Rattle.settlement.specs.Value.{apart_of, tolerance_of}
+use Rattle.settlement.specs.Observed.{accounts_of, months_of, rate_on}
+use Rattle.settlement.specs.Value.{last_closed, apart_of, tolerance_of}
 use Rattle.settlement.specs.World.{World}
 
 -- a book from 30 December 2026 on, with no rates yet
@@ -49,7 +50,7 @@ both x = record { adjustments = table ((neg_ℤ x ∷ []) ∷ (x ∷ []) ∷ [])
 abbrev pub run_world : World
 run_world = book_over (record { day = 9862; kind = Closed } ∷ [])
 
--- January 2027, which expires on 4 January, day 9865; the newest first
+-- January 2027, which expires on 4 January, day 9865; the newest first. The mark of 9,996,000 is replaced.
 abbrev pub run_history : History
 run_history =
     Paid
@@ -59,6 +60,7 @@ run_history =
     ∷ Opened 9865
     ∷ Closed (both (neg_ℤ (pos 800)))
     ∷ Marked 0 9996200
+    ∷ Marked 0 9996000
     ∷ Paid
     ∷ Published 9861 10000000
     ∷ Opened 9861
@@ -76,12 +78,20 @@ run_history =
 abbrev pub amounts_of : ℕ → History → List ℤ
 amounts_of a h = map (λ c. c.adjustments a 0) (gather written h)
 
--- it is lawful, and account 1 gets 610, −800 and 190, account 0 the opposite
+-- it is lawful, account 1 gets 610, −800 and 190, account 0 the opposite, and the month's last closed session is its expiry
 abbrev pub RunHolds : Type 0
 RunHolds =
     Lawful run_world run_history
     × (amounts_of 1 run_history ≡ pos 610 ∷ neg_ℤ (pos 800) ∷ pos 190 ∷ [])
     × (amounts_of 0 run_history ≡ neg_ℤ (pos 610) ∷ pos 800 ∷ neg_ℤ (pos 190) ∷ [])
+    × (last_closed run_world run_history 0 ≡ 9865)
+
+-- what the first two closes know of account 1
+pub record RunSeen : Type 0 where
+  pub first : Seen run_world (drop 12 run_history) run_world.kinds (rate_on run_world (drop 12 run_history))
+      (record { latest = None; day = 9860; price = 9992500 }) (deal 10000 10 9992439 ∷ []) 1 0 (pos 10)
+  pub second : Seen run_world (drop 6 run_history) run_world.kinds (rate_on run_world (drop 6 run_history))
+      (record { latest = Some (record { day = 9860; price = 9992500 }); day = 9861; price = 9996200 }) [] 1 0 (pos 10)
 
 -- ---- the tolerance used to the full
 

@@ -2,7 +2,7 @@
 ghost use Rattle.settlement.specs.Balance.{AlwaysBalanced};
 ghost use Rattle.settlement.specs.Busy.{BusyHolds};
 ghost use Rattle.settlement.specs.Edges.{EdgesHold};
-ghost use Rattle.settlement.specs.Examples.{RunHolds, FullHolds};
+ghost use Rattle.settlement.specs.Examples.{RunHolds, RunSeen, FullHolds};
 ghost use Rattle.settlement.specs.Imports.{ImportsHold};
 ghost use Rattle.settlement.specs.Laws.{LawsHold};
 ghost use Rattle.settlement.specs.Limits.{LimitsHold};
@@ -35,6 +35,7 @@ pub fn laws_hold()
 // one beside which wrong books, which balance, break the second claim.
 pub fn examples_hold()
     ensures run { RunHolds }
+    ensures seen { RunSeen }
     ensures busy { BusyHolds }
     ensures full { FullHolds }
     ensures wrong { WrongCaught }
