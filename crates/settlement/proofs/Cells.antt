@@ -20,7 +20,7 @@ use Rattle.settlement.specs.Positions.{has_ended, contracts_in, carried_of, corr
 use Rattle.settlement.specs.Lawful.{InBook, Lawful}
 use Rattle.settlement.proofs.Dealt.{Fits, session-fits, closed-fit}
 
-lots-outside : (side : Side) (n k a m : ℕ) (t : Trade) → party_of side t < n → t.month < k → ((a < n) × (m < k) → ⊥) → lots_of side a m t ≡ 0
+pub lots-outside : (side : Side) (n k a m : ℕ) (t : Trade) → party_of side t < n → t.month < k → ((a < n) × (m < k) → ⊥) → lots_of side a m t ≡ 0
 lots-outside side n k a m t p q out = grind (arith, nat_tests)
 
 -- an account or month outside has no contracts in a trade that fits

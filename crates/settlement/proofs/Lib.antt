@@ -32,3 +32,4 @@ pub mod Sums
 pub mod Telescope
 pub mod Unpaid
 pub mod Valuing
+pub mod Written

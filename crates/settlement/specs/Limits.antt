@@ -1,9 +1,10 @@
 -- How large things get in lawful histories.
-use Rattle.std.specs.Prelude.{◌≡◌, ℕ, ◌+◌, ◌*◌, ◌^◌, ◌<◌, ◌≤◌, true, length, Some, None, Option, unsigned_abs}
+use Rattle.std.specs.Prelude.{◌≡◌, ℕ, ◌+◌, ◌*◌, ◌^◌, ◌<◌, ◌≤◌, true, false, ◌&&◌, length, pos, Some, None, Option, nat_eq, unsigned_abs}
 use Rattle.std.specs.List.{AllByRecursion}
 use Rattle.calendar.specs.declared.kind.DayKind.TheVariants.{Closed}
 use Rattle.calendar.specs.Kinds.{is_session}
 use Rattle.amounts.specs.Trades.{Limited}
+use Rattle.settlement.specs.Accounts.{account_indices, month_indices, is_among}
 use Rattle.settlement.specs.History.{History, Amounts, traded, written, gather}
 use Rattle.settlement.specs.Lawful.{Lawful}
 use Rattle.settlement.specs.Observed.{accounts_of, months_of, rate_on, opened_days, latest_opened, session_day, open_session, trades_of, settlement_price}
@@ -45,6 +46,12 @@ abbrev pub ClosedDays : Type 0
 ClosedDays = (w : World) (h : History) → Lawful w h
     → (open_session h ≡ None → latest_closed w h ≡ latest_opened h)
     × ((d : ℕ) → open_session h ≡ Some d → AllByRecursion (λ s. s.day < d) (sessions_of w h))
+
+-- a close wrote nothing but for the indices of accounts and months
+abbrev pub NothingOutside : Type 0
+NothingOutside = (w : World) (h : History) → Lawful w h
+    → AllByRecursion (λ c. (a m : ℕ) → (is_among nat_eq a account_indices && is_among nat_eq m month_indices) ≡ false
+    → (c.adjustments a m ≡ pos 0) × (c.day_trades a m ≡ pos 0)) (gather written h)
 
 -- no rate is over 99,999,999
 abbrev pub RatesLimited : (ℕ → Option ℕ) → Type 0
@@ -91,6 +98,7 @@ pub record LimitsHold : Type 0 where
   pub prices : PricesLimited
   pub opened : OpenedSessions
   pub closed : ClosedDays
+  pub outside : NothingOutside
   pub rates : RatesStayLimited
   pub amounts : AmountsLimited
   pub dues : DuesLimited

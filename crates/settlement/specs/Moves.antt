@@ -5,6 +5,7 @@ use Rattle.interest.specs.Price.{trade_price}
 use Rattle.pricing.specs.Pricing.{days_to}
 use Rattle.amounts.specs.declared.trades.Trade.{Trade}
 use Rattle.amounts.specs.Trades.{contracts_of}
+use Rattle.amounts.specs.DayTrades.{day_trade}
 use Rattle.settlement.specs.History.{History, Event, Amounts, Traded, Closed, Paid, traded, written, is_payment}
 use Rattle.settlement.specs.Lawful.{Lawful}
 use Rattle.settlement.specs.Observed.{months_of, is_listed, month_at, expiry_at, session_day, open_session, trades_of}
@@ -55,6 +56,10 @@ TradesInTime = (w : World) (h : History) → Lawful w h → OfTrades w h (InTime
 abbrev pub TradesPriced : Type 0
 TradesPriced = (w : World) (h : History) → Lawful w h → OfTrades w h (AtPrice w h)
 
+-- closes wrote the day trades of their sessions
+abbrev pub DayTradesWritten : Type 0
+DayTradesWritten = (w : World) (h : History) → Lawful w h → AllByRecursion (λ s. (a m : ℕ) → s.amounts.day_trades a m ≡ day_trade a m s.trades) (sessions_of w h)
+
 -- when a listed month has ended
 pub record EndedBy : Type 0 where
   -- while a session is open: if its expiry is before the session
@@ -70,4 +75,5 @@ pub record MovesHold : Type 0 where
   pub dues : DuesMove
   pub in_time : TradesInTime
   pub priced : TradesPriced
+  pub day_trades : DayTradesWritten
   pub ended : EndedBy

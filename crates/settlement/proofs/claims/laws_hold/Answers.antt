@@ -19,6 +19,7 @@ use Rattle.settlement.proofs.SheetRows.{sheet-rows}
 use Rattle.settlement.proofs.Sizes.{tables-limited, trades-limited, prices-within, rates-stay-limited}
 use Rattle.settlement.proofs.Sums.{amounts-limited, dues-fit, dues-limited}
 use Rattle.settlement.proofs.Unpaid.{one-unpaid, closes-paid}
+use Rattle.settlement.proofs.Written.{day-trades-written, nothing-outside}
 
 pub returns-clause-laws : goal.returns-clause-laws
 returns-clause-laws c = record {
@@ -37,7 +38,7 @@ returns-clause-laws c = record {
 }
 
 pub returns-clause-moves : goal.returns-clause-moves
-returns-clause-moves c = record { positions = positions-move; dues = dues-move; in_time = trades-in-time; priced = trades-priced; ended = ended-by }
+returns-clause-moves c = record { positions = positions-move; dues = dues-move; in_time = trades-in-time; priced = trades-priced; day_trades = day-trades-written; ended = ended-by }
 
 pub returns-clause-limits : goal.returns-clause-limits
 returns-clause-limits c = record {
@@ -47,6 +48,7 @@ returns-clause-limits c = record {
   prices = prices-within;
   opened = opened-sessions;
   closed = closed-days;
+  outside = nothing-outside;
   rates = rates-stay-limited;
   amounts = amounts-limited;
   dues = dues-limited;
