@@ -1,7 +1,7 @@
 -- The busy history is lawful, event by event, and comes to what is said of it.
 use Rattle.std.proofs.Common.{drop, refl, inr, lit≤}
 use Rattle.settlement.specs.Lawful.{Lawful}
-use Rattle.settlement.specs.Busy.{busy_world, busy_history, JanuarySeen, BusyHolds}
+use Rattle.settlement.specs.Busy.{busy_world, busy_history, order_history, JanuarySeen, BusyHolds}
 use Rattle.settlement.proofs.Exampled.{figures, paper, closes}
 use Rattle.settlement.proofs.Monthly.{december, december-31}
 
@@ -29,6 +29,11 @@ unfolding figures
 busy-lawful =
     (closes busy_world (drop 1 busy_history) 9866 refl, (refl, ((paper 9866, refl), ((paper 9865, refl), ((refl, refl), busy-third)))))
 
+ordered : Lawful busy_world order_history
+unfolding figures
+ordered =
+    (closes busy_world (drop 1 order_history) 9860 refl, ((paper 9860, refl), ((paper 9860, refl), (((paper 9860, rw december), refl), (((paper 9860, rw december), refl), (((paper 9860, rw december), refl), ((refl, refl), (refl, (refl, (refl, tt))))))))))
+
 january-seen : JanuarySeen
 unfolding figures
 january-seen = record {
@@ -44,4 +49,4 @@ january-seen = record {
 
 pub busy-holds : BusyHolds
 unfolding figures
-busy-holds = record { lawful = busy-lawful; adjustments = refl; day_trades = refl; positions = refl; paid = refl; due = refl; seen = january-seen }
+busy-holds = record { lawful = busy-lawful; adjustments = refl; day_trades = refl; positions = refl; paid = refl; due = refl; seen = january-seen; last = refl; expired = refl; order = ordered }

@@ -6,6 +6,7 @@ use Rattle.settlement.specs.Closing.{Seen}
 use Rattle.settlement.specs.Lawful.{Lawful}
 use Rattle.settlement.specs.Observed.{rate_on, trades_of}
 use Rattle.settlement.specs.Positions.{position_of, due_of, paid_of}
+use Rattle.settlement.specs.Value.{last_closed}
 use Rattle.settlement.specs.World.{World}
 
 -- from 30 December 2026 on; 1 January 2027 is closed, so the sessions are 9860, 9861, 9865, 9866 and so on
@@ -70,6 +71,24 @@ JanuarySeen =
     Seen busy_world (drop 10 busy_history) busy_world.kinds (rate_on busy_world (drop 10 busy_history))
     (record { latest = Some (record { day = 9860; price = 0 }); day = 9861; price = 9994500 }) (trades_of (drop 10 busy_history)) 1 1 (neg_ℤ (pos 3))
 
+-- a session in which the order of trades and of marks tells: of account 0, the first 4 of 12 contracts sold in price are those at 9,879,455
+abbrev pub order_history : History
+order_history =
+    Closed (record {
+      adjustments = table ((pos 1946 ∷ []) ∷ (neg_ℤ (pos 1946) ∷ []) ∷ []);
+      day_trades = table ((pos 1412 ∷ []) ∷ (neg_ℤ (pos 1412) ∷ []) ∷ []);
+    })
+    ∷ Marked 0 9879300
+    ∷ Marked 0 9879000
+    ∷ Traded (record { buyer = 0; seller = 1; month = 0; rate = 14950; quantity = 2; price = 9879102 })
+    ∷ Traded (record { buyer = 1; seller = 0; month = 0; rate = 14950; quantity = 4; price = 9879102 })
+    ∷ Traded (record { buyer = 0; seller = 1; month = 0; rate = 14903; quantity = 10; price = 9879455 })
+    ∷ Opened 9860
+    ∷ Listed 325
+    ∷ Entered (client 11)
+    ∷ Entered (client 10)
+    ∷ []
+
 -- all of it in rows of accounts with columns of months
 pub record BusyHolds : Type 0 where
   pub lawful : Lawful busy_world busy_history
@@ -95,3 +114,8 @@ pub record BusyHolds : Type 0 where
   pub due : due_of busy_history 0 ≡ neg_ℤ (pos 66)
   -- what the second close knows
   pub seen : JanuarySeen
+  -- the last closed sessions of February and of January
+  pub last : last_closed busy_world busy_history 0 ≡ 9866
+  pub expired : last_closed busy_world busy_history 1 ≡ 9865
+  -- the session of the other history
+  pub order : Lawful busy_world order_history

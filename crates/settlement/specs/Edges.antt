@@ -9,6 +9,7 @@ use Rattle.refusal.specs.Refusals.{Row, first_row}
 use Rattle.amounts.specs.declared.trades.Trade.{Trade}
 use Rattle.settlement.specs.Examples.{book_over, client, both}
 use Rattle.settlement.specs.History.{History, Entered, Listed, Published, Arbitrated, Opened, Traded, Marked, Closed, Paid}
+use Rattle.settlement.specs.Observed.{accounts_of, months_of, settlement_price}
 use Rattle.settlement.specs.Rows.{Paper, enter_rows, list_rows, publish_rows, arbitrate_rows, open_rows, trade_rows, mark_rows, close_rows, pay_rows, position_rows, balance_rows, close_refused, pay_refused}
 use Rattle.settlement.specs.Sheets.{line_trade}
 use Rattle.settlement.specs.World.{World}
@@ -105,6 +106,7 @@ list_edges =
     -- the expiry is after the latest session, or is that session
     ∷ (list_rows weekdays (Opened 9861 ∷ []) 324, None)
     ∷ (list_rows weekdays (Opened 9862 ∷ []) 324, Some NoExpiry)
+    ∷ (list_rows weekdays (Closed (both (pos 0)) ∷ Opened 9862 ∷ []) 324, Some NoExpiry)
     ∷ []
 
 -- the horizon, days with rates, the highest rate, the period
@@ -250,6 +252,9 @@ pay_edges =
     ∷ (pay_rows weekdays (Opened 9861 ∷ closed_once) (of_day 9861), Some NotCurrent)
     ∷ (pay_rows weekdays (Paid ∷ Opened 9861 ∷ closed_once) (of_day 9860), Some NotCurrent)
     ∷ (pay_rows weekdays two_months (of_day 9860), Some NotCurrent)
+    -- the slip of the second close, where the first is paid
+    ∷ (pay_rows weekdays (Opened 9862 ∷ Closed (both (pos 0)) ∷ Paid ∷ Opened 9861 ∷ closed_once) (of_day 9861), None)
+    ∷ (pay_rows weekdays (Opened 9862 ∷ Closed (both (pos 0)) ∷ Paid ∷ Opened 9861 ∷ closed_once) (of_day 9860), Some NotCurrent)
     ∷ (pay_rows weekdays closed_once (of_day 9860), Some NoLaterSession)
     ∷ []
 
@@ -261,6 +266,19 @@ question_edges =
     ∷ (position_rows two_months 2 2, Some NoSuchIndex)
     ∷ (balance_rows two_months 2, None)
     ∷ (balance_rows two_months 3, Some NoSuchIndex)
+    ∷ []
+
+-- settlement prices
+abbrev pub price_edges : List (ℕ × ℕ)
+price_edges =
+    -- the latest mark of the month in the session, 0 without one
+    (settlement_price weekdays (Marked 0 2 ∷ Marked 1 3 ∷ Marked 0 1 ∷ two_months) 0, 2)
+    ∷ (settlement_price weekdays (Marked 1 3 ∷ two_months) 0, 0)
+    -- January 2027 on its expiry, and in the session after it
+    ∷ (settlement_price weekdays (session_with 9862 324) 1, 10000000)
+    ∷ (settlement_price weekdays (session_with 9865 324) 1, 0)
+    -- a month that is not listed, on the first session day of January 2000 too
+    ∷ (settlement_price weekdays (Opened 2 ∷ []) 0, 0)
     ∷ []
 
 -- each table gives what stands beside it
@@ -275,6 +293,10 @@ pub record EdgesHold : Type 0 where
   pub close : Give close_edges
   pub pay : Give pay_edges
   pub questions : Give question_edges
+  pub prices : map (λ c. c.0) price_edges ≡ map (λ c. c.1) price_edges
+  -- accounts and months in the order in which they came
+  pub accounts : accounts_of (Entered (client 1) ∷ Entered (client 0) ∷ []) ≡ client 0 ∷ client 1 ∷ []
+  pub months : months_of two_months ≡ 325 ∷ 326 ∷ []
   -- a line of a sheet as a trade, in March 2027, 43 reserve days on, and in a month that is not listed
   pub line : line_trade weekdays two_months (record { buyer = 2; seller = 1; month = 326; rate = 10000; quantity = 7 })
       ≡ record { buyer = 2; seller = 1; month = 1; rate = 10000; quantity = 7; price = 9838683 }
