@@ -1,38 +1,39 @@
 -- The busy history is lawful, event by event, and comes to what is said of it.
 use Rattle.std.proofs.Common.{drop, refl, inr, lit≤}
 use Rattle.settlement.specs.Lawful.{Lawful}
-use Rattle.settlement.specs.Busy.{busy_world, busy_history, order_history, JanuarySeen, BusyHolds}
+use Rattle.settlement.specs.Busy.{busy_history, order_history, JanuarySeen, BusyHolds}
+use Rattle.settlement.specs.Examples.{run_world}
 use Rattle.settlement.proofs.Exampled.{figures, paper, closes}
 use Rattle.settlement.proofs.Monthly.{december, december-31}
 
 -- up to the first close, the newest event first
-busy-first : Lawful busy_world (drop 19 busy_history)
+busy-first : Lawful run_world (drop 19 busy_history)
 unfolding figures
 busy-first =
-    (closes busy_world (drop 20 busy_history) 9860 refl, (refl, ((paper 9860, refl), (((paper 9860, rw december), refl), (((paper 9860, rw december), refl), ((refl, refl), (refl, (refl, (refl, tt)))))))))
+    (closes run_world (drop 20 busy_history) 9860 refl, (refl, ((paper 9860, refl), (((paper 9860, rw december), refl), (((paper 9860, rw december), refl), ((refl, refl), (refl, (refl, (refl, tt)))))))))
 
 -- up to the second
-busy-second : Lawful busy_world (drop 9 busy_history)
+busy-second : Lawful run_world (drop 9 busy_history)
 unfolding figures
 busy-second =
-    (closes busy_world (drop 10 busy_history) 9861 refl, (refl, ((paper 9860, refl), ((paper 9861, refl), ((paper 9861, refl), (((paper 9861, rw december-31), refl), (((paper 9861, rw december-31), refl), (refl, ((refl, refl), (refl, busy-first))))))))))
+    (closes run_world (drop 10 busy_history) 9861 refl, (refl, ((paper 9860, refl), ((paper 9861, refl), ((paper 9861, refl), (((paper 9861, rw december-31), refl), (((paper 9861, rw december-31), refl), (refl, ((refl, refl), (refl, busy-first))))))))))
 
 -- up to the third
-busy-third : Lawful busy_world (drop 5 busy_history)
+busy-third : Lawful run_world (drop 5 busy_history)
 unfolding figures
 busy-third =
-    (closes busy_world (drop 6 busy_history) 9865 refl, ((paper 9861, refl), ((paper 9865, refl), ((refl, refl), busy-second))))
+    (closes run_world (drop 6 busy_history) 9865 refl, ((paper 9861, refl), ((paper 9865, refl), ((refl, refl), busy-second))))
 
 -- all of it
-busy-lawful : Lawful busy_world busy_history
+busy-lawful : Lawful run_world busy_history
 unfolding figures
 busy-lawful =
-    (closes busy_world (drop 1 busy_history) 9866 refl, (refl, ((paper 9866, refl), ((paper 9865, refl), ((refl, refl), busy-third)))))
+    (closes run_world (drop 1 busy_history) 9866 refl, (refl, ((paper 9866, refl), ((paper 9865, refl), ((refl, refl), busy-third)))))
 
-ordered : Lawful busy_world order_history
+ordered : Lawful run_world order_history
 unfolding figures
 ordered =
-    (closes busy_world (drop 1 order_history) 9860 refl, ((paper 9860, refl), ((paper 9860, refl), (((paper 9860, rw december), refl), (((paper 9860, rw december), refl), (((paper 9860, rw december), refl), ((refl, refl), (refl, (refl, (refl, tt))))))))))
+    (closes run_world (drop 1 order_history) 9860 refl, ((paper 9860, refl), ((paper 9860, refl), (((paper 9860, rw december), refl), (((paper 9860, rw december), refl), (((paper 9860, rw december), refl), ((refl, refl), (refl, (refl, (refl, tt))))))))))
 
 january-seen : JanuarySeen
 unfolding figures

@@ -73,7 +73,7 @@ pub cells : (w : World) (h : History) (c : Amounts) → Lawful w (Closed c ∷ h
 cells w h c l a m = by (cases_lt a (length (accounts_of h))) (cases_lt m (length (months_of h)))
   where
     nothing : (InBook h a m → ⊥) → c.adjustments a m ≡ adjustment_at w h a m
-    nothing out = l.0.settles.no-adjustments a m out ∙ sym (adjustment-outside w h l.1 a m out)
+    nothing out = l.0.settles.no_adjustments a m out ∙ sym (adjustment-outside w h l.1 a m out)
 
     by : (a < length (accounts_of h)) ⊎ (length (accounts_of h) ≤ a) → (m < length (months_of h)) ⊎ (length (months_of h) ≤ m)
         → c.adjustments a m ≡ adjustment_at w h a m

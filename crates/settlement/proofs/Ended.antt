@@ -57,7 +57,7 @@ after w h c l a m i b =
     let x = expired-before w h m s.day l.1 s.session.is_open i (omega (arith, s.session.day)) in
     elim (cases_lt a (length (accounts_of h))) [
       | inl j ↦ l.0.settles.adjustments a m (j, i) ∙ nothing x
-      | inr j ↦ l.0.settles.no-adjustments a m (λ k. omega (arith, k.0))
+      | inr j ↦ l.0.settles.no_adjustments a m (λ k. omega (arith, k.0))
     ]
   where
     nothing : has_ended w h m ≡ true → adjustment_at w h a m ≡ pos 0

@@ -18,7 +18,7 @@ use Rattle.settlement.specs.Positions.{adjustment_at}
 use Rattle.settlement.specs.Rows.{Paper, cells_of, close_rows}
 use Rattle.settlement.specs.Lawful.{Allowed, Closes, InBook, Lawful}
 use Rattle.settlement.proofs.Monthly.{december}
-use Rattle.settlement.specs.Examples.{table, rows_of, run_world, run_history, RunHolds, RunSeen, full_world, full_history, FullHolds}
+use Rattle.settlement.specs.Examples.{table, rows_of, run_world, run_history, RunHolds, RunSeen, weekdays, full_history, FullHolds}
 
 -- what the proofs compute with
 unfoldable pub figures : Unit {0}
@@ -63,8 +63,8 @@ closes w h day ok = record {
   settles = record {
     adjustments = inside h (adjustment_at w h);
     day_trades = inside h (λ a m. day_trade a m (trades_of h));
-    no-adjustments = outside h (adjustment_at w h);
-    no-day-trades = outside h (λ a m. day_trade a m (trades_of h));
+    no_adjustments = outside h (adjustment_at w h);
+    no_day_trades = outside h (λ a m. day_trade a m (trades_of h));
   };
 }
 
@@ -102,16 +102,16 @@ run-seen = record {
 -- ---- the tolerance used to the full
 
 -- up to the first close, the newest event first
-full-first : Lawful full_world (drop 4 full_history)
+full-first : Lawful weekdays (drop 4 full_history)
 unfolding figures
 full-first =
-    (closes full_world (drop 5 full_history) 9860 refl, ((paper 9860, refl), (((paper 9860, rw december), refl), (refl, ((refl, refl), (refl, (refl, (refl, tt))))))))
+    (closes weekdays (drop 5 full_history) 9860 refl, ((paper 9860, refl), (((paper 9860, rw december), refl), (refl, ((refl, refl), (refl, (refl, (refl, tt))))))))
 
 -- all of it
-full-lawful : Lawful full_world full_history
+full-lawful : Lawful weekdays full_history
 unfolding figures
 full-lawful =
-    (closes full_world (drop 1 full_history) 9861 refl, ((paper 9861, refl), ((paper 9860, refl), ((refl, refl), full-first))))
+    (closes weekdays (drop 1 full_history) 9861 refl, ((paper 9861, refl), ((paper 9860, refl), ((refl, refl), full-first))))
 
 pub full-holds : FullHolds
 unfolding figures

@@ -47,7 +47,7 @@ new-day-trades : (w : World) (h : History) (c : Amounts) → Lawful w (Closed c 
 new-day-trades w h c l a m =
     elim (in_or_out h a m) [
       | inl i ↦ l.0.settles.day_trades a m i
-      | inr o ↦ l.0.settles.no-day-trades a m o ∙ sym (day-trade-outside (length (accounts_of h)) (length (months_of h)) a m o (trades_of h) (session-fits w h l.1))
+      | inr o ↦ l.0.settles.no_day_trades a m o ∙ sym (day-trade-outside (length (accounts_of h)) (length (months_of h)) a m o (trades_of h) (session-fits w h l.1))
     ]
 
 pub day-trades-written : DayTradesWritten
@@ -72,7 +72,7 @@ Inside c = (a m : ℕ) → (is_among eqb a account_indices && is_among eqb m mon
 
 new-inside : (w : World) (h : History) (e : Event) → Lawful w (e ∷ h) → AllByRecursion Inside (list_of (written e))
 new-inside w h (Closed c) l =
-    (λ a m e. let o = not-in-book w h a m l.1 e in (l.0.settles.no-adjustments a m o, l.0.settles.no-day-trades a m o), tt)
+    (λ a m e. let o = not-in-book w h a m l.1 e in (l.0.settles.no_adjustments a m o, l.0.settles.no_day_trades a m o), tt)
 new-inside w h e l = tt
 
 pub nothing-outside : NothingOutside

@@ -7,17 +7,13 @@ use Rattle.settlement.specs.Lawful.{Lawful}
 use Rattle.settlement.specs.Observed.{rate_on, trades_of}
 use Rattle.settlement.specs.Positions.{position_of, due_of, paid_of}
 use Rattle.settlement.specs.Value.{last_closed}
-use Rattle.settlement.specs.World.{World}
-
--- from 30 December 2026 on; 1 January 2027 is closed, so the sessions are 9860, 9861, 9865, 9866 and so on
-abbrev pub busy_world : World
-busy_world = run_world
 
 -- 0 for each of three accounts in two months
 abbrev pub no_rows : List (List ℤ)
 no_rows = (pos 0 ∷ pos 0 ∷ []) ∷ (pos 0 ∷ pos 0 ∷ []) ∷ (pos 0 ∷ pos 0 ∷ []) ∷ []
 
--- The newest first. Month 0 is February 2027; account 2 comes between two sessions, and month 1, January 2027, while the second session is open.
+-- The newest first, in the world of the run, with the sessions 9860, 9861, 9865 and 9866. Month 0 is February 2027; account 2 comes between
+-- two sessions, and month 1, January 2027, while the second session is open.
 -- From 9860 to 9861 the price 9,879,300 becomes 9,884,747 by the published rate; from 9861 to 9865, which is the expiry of January, the prices
 -- 9,884,800 and 9,994,500 become 9,890,164 and 9,999,924 by the arbitrated rate of the one reserve day between. From 9865 to 9866 the price of
 -- February becomes 9,895,584; January is over.
@@ -65,10 +61,10 @@ busy_history =
     ∷ Entered (client 10)
     ∷ []
 
--- what the second close knows of account 1 in January, which was listed since the first: it carries nothing, so its latest price may be any
+-- what the second close knows of account 1 in January, which was listed since the first: it carries nothing, so its latest price may be any up to 10,000,000
 abbrev pub JanuarySeen : Type 0
 JanuarySeen =
-    Seen busy_world (drop 10 busy_history) busy_world.kinds (rate_on busy_world (drop 10 busy_history))
+    Seen run_world (drop 10 busy_history) run_world.kinds (rate_on run_world (drop 10 busy_history))
     (record { latest = Some (record { day = 9860; price = 0 }); day = 9861; price = 9994500 }) (trades_of (drop 10 busy_history)) 1 1 (neg_ℤ (pos 3))
 
 -- a session in which the order of trades and of marks tells: of account 0, the first 4 of 12 contracts sold in price are those at 9,879,455
@@ -91,7 +87,7 @@ order_history =
 
 -- all of it in rows of accounts with columns of months
 pub record BusyHolds : Type 0 where
-  pub lawful : Lawful busy_world busy_history
+  pub lawful : Lawful run_world busy_history
   -- what the four closes wrote, in order of time; what came late has nothing in the first, and January nothing in the last
   pub adjustments : map (λ c. rows_of busy_history c.adjustments) (gather written busy_history)
       ≡ ((pos 2342 ∷ pos 0 ∷ []) ∷ (neg_ℤ (pos 2342) ∷ pos 0 ∷ []) ∷ (pos 0 ∷ pos 0 ∷ []) ∷ [])
@@ -107,7 +103,7 @@ pub record BusyHolds : Type 0 where
       ∷ no_rows
       ∷ []
   -- the positions at the end: those of January are 0
-  pub positions : rows_of busy_history (position_of busy_world busy_history)
+  pub positions : rows_of busy_history (position_of run_world busy_history)
       ≡ (neg_ℤ (pos 1) ∷ pos 0 ∷ []) ∷ (pos 6 ∷ pos 0 ∷ []) ∷ (neg_ℤ (pos 5) ∷ pos 0 ∷ []) ∷ []
   -- of account 0: 2,342 − 1,658 − 36, and what the last close wrote
   pub paid : paid_of busy_history 0 ≡ pos 648
@@ -115,7 +111,7 @@ pub record BusyHolds : Type 0 where
   -- what the second close knows
   pub seen : JanuarySeen
   -- the last closed sessions of February and of January
-  pub last : last_closed busy_world busy_history 0 ≡ 9866
-  pub expired : last_closed busy_world busy_history 1 ≡ 9865
-  -- the session of the other history
-  pub order : Lawful busy_world order_history
+  pub last : last_closed run_world busy_history 0 ≡ 9866
+  pub expired : last_closed run_world busy_history 1 ≡ 9865
+  -- the history in which the order tells is lawful
+  pub order : Lawful run_world order_history

@@ -31,12 +31,12 @@ Correctable kinds rates None day = Unit {0}
 Correctable kinds rates (Some s) day =
     corrections.Short kinds s.day day × (first_unrated rates (reserve_days kinds s.day day) ≡ None)
 
--- why it cannot
+-- why it cannot be corrected
 abbrev pub Uncorrectable : (ℕ → DayKind) → (ℕ → Option ℕ) → Option Settled → ℕ → Uncorrected → Type 0
 Uncorrectable kinds rates None day e = ⊥
 Uncorrectable kinds rates (Some s) day e = corrections.Refused kinds rates s.day day e
 
--- the position that the session began with: less what its trades changed
+-- the position that the session began with: that at the close, less what the session's trades changed
 abbrev pub carried_in : ℕ → ℕ → List Trade → ℤ → ℤ
 carried_in a m trades position = position -ℤ position_change a m trades
 
@@ -83,7 +83,7 @@ SettledOf w h day a m r =
     (λ x. (first_unrated (rate_on w h) (gap_to w day (sessions_of w h)) ≡ None) × (x ≡ adjustment_at w h a m))
     (λ e. (missing : ℕ) × (e ≡ NotCorrected (MissingRate missing)) × (first_unrated (rate_on w h) (gap_to w day (sessions_of w h)) ≡ Some missing))
 
--- of every lawful history that is seen so
+-- so in every lawful history of which the close knows these values
 abbrev pub Answers : (ℕ → DayKind) → (ℕ → Option ℕ) → MonthClose → List Trade → ℕ → ℕ → ℤ → Result ℤ Unsettled → Type 0
 Answers kinds rates close trades a m position r =
     (w : World) (h : History) → Seen w h kinds rates close trades a m position → SettledOf w h close.day a m r

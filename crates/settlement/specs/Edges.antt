@@ -7,7 +7,7 @@ use Rattle.refusal.specs.declared.Refusal.{Refusal}
 use Rattle.refusal.specs.declared.Refusal.TheVariants.{NotCurrent, NoSuchIndex, Expired, SameSides, BadQuantity, BadRate, TooFar, PositionLimit, SessionFull, BadPrice, SessionOpen, NoSession, Unpaid, Unmarked, MissingRate, ArrayShort, NoLaterSession, TableFull, AlreadyThere, NoExpiry, OutsideHorizon, HasRate, RateTooHigh, BadPeriod, ArbitrationFull}
 use Rattle.refusal.specs.Refusals.{Row, first_row}
 use Rattle.amounts.specs.declared.trades.Trade.{Trade}
-use Rattle.settlement.specs.Examples.{book_over, client, both}
+use Rattle.settlement.specs.Examples.{weekdays, client, both}
 use Rattle.settlement.specs.History.{History, Entered, Listed, Published, Arbitrated, Opened, Traded, Marked, Closed, Paid}
 use Rattle.settlement.specs.Observed.{accounts_of, months_of, settlement_price}
 use Rattle.settlement.specs.Rows.{Paper, enter_rows, list_rows, publish_rows, arbitrate_rows, open_rows, trade_rows, mark_rows, close_rows, pay_rows, position_rows, balance_rows, close_refused, pay_refused}
@@ -18,15 +18,11 @@ use Rattle.settlement.specs.World.{World}
 abbrev pub Give : List (List Row × Option Refusal) → Type 0
 Give cases = map (λ c. first_row c.0) cases ≡ map (λ c. c.1) cases
 
--- Monday to Friday are sessions, from 30 December 2026 (day 9,860, a Wednesday) on; rates on days 9,860 to 9,869, with none yet
-abbrev pub weekdays : World
-weekdays = book_over []
-
--- so, where days have been arbitrated before
+-- the same, where n days were arbitrated before the book was made
 abbrev pub arbitrated_before : ℕ → World
 arbitrated_before n = record { number = 1; start = 9860; kinds = weekdays.kinds; horizon = weekdays.horizon; rates = weekdays.rates; arbitrated = n }
 
--- so, where each day has the rate of 10 % before
+-- the same, where each day had the rate of 10 % before
 abbrev pub rated_before : World
 rated_before = record { number = 1; start = 9860; kinds = weekdays.kinds; horizon = weekdays.horizon; rates = λ d. Some 10000000; arbitrated = 0 }
 
@@ -34,15 +30,15 @@ rated_before = record { number = 1; start = 9860; kinds = weekdays.kinds; horizo
 abbrev pub only_session : ℕ → World
 only_session day = record { number = 1; start = 9860; kinds = λ d. cond (d == day) kinds.Session kinds.Closed; horizon = weekdays.horizon; rates = weekdays.rates; arbitrated = 0 }
 
--- clients 0, 1 and so on were entered
+-- the clients below n were entered, client 0 last
 abbrev pub with_clients : ℕ → History
 with_clients n = map (λ i. Entered (client i)) (range_with_len 0 n)
 
--- three accounts and two months, in a session: May 2033 and another
+-- three accounts, May 2033 as month 0, the given month as month 1, and a session of this day
 abbrev pub session_with : ℕ → ℕ → History
 session_with day month = Opened day ∷ Listed month ∷ Listed 400 ∷ with_clients 3
 
--- three accounts, and the session of 9,860 with February and March 2027 (days 9,893 and 9,921)
+-- three accounts, and the session of 9,860 with February and March 2027, which expire on 9,893 and 9,921
 abbrev pub two_months : History
 two_months = Opened 9860 ∷ Listed 326 ∷ Listed 325 ∷ with_clients 3
 
@@ -58,25 +54,25 @@ of_day day = record { number = 1; day = day }
 abbrev pub of_another_book : ℕ → Paper
 of_another_book day = record { number = 2; day = day }
 
--- a trade of two accounts in month 1
-abbrev pub between : ℕ → ℕ → ℕ → ℕ → Trade
-between buyer seller rate quantity = record { buyer = buyer; seller = seller; month = 1; rate = rate; quantity = quantity; price = 0 }
+-- a trade in month 1: buyer and seller in rate, rate, quantity; no row looks at its price
+abbrev pub trade_between : ℕ → ℕ → ℕ → ℕ → Trade
+trade_between buyer seller rate quantity = record { buyer = buyer; seller = seller; month = 1; rate = rate; quantity = quantity; price = 0 }
 
 -- so many trades, in which account 0 buys in rate from account 1
 abbrev pub dealt : ℕ → ℕ → History
-dealt n quantity = replicate n (Traded (between 0 1 10000 quantity))
+dealt n quantity = replicate n (Traded (trade_between 0 1 10000 quantity))
 
--- a trade of account 0 with account 1 in a month, in the session of 9,860
-abbrev pub rate_in : ℕ → ℕ → List Row
-rate_in month rate = trade_rows weekdays (session_with 9860 month) (of_day 9860) (between 0 1 rate 1)
+-- the rows of a trade at this rate in this month, in the session of 9,860
+abbrev pub rows_at_rate : ℕ → ℕ → List Row
+rows_at_rate month rate = trade_rows weekdays (session_with 9860 month) (of_day 9860) (trade_between 0 1 rate 1)
 
--- a trade in February 2027, in the session of 9,860
-abbrev pub after_trades : History → Trade → List Row
-after_trades trades t = trade_rows weekdays (trades ++ session_with 9860 325) (of_day 9860) t
+-- the rows of a trade after these trades, in the session of 9,860 with May 2033 (month 0) and February 2027 (month 1)
+abbrev pub rows_after : History → Trade → List Row
+rows_after trades t = trade_rows weekdays (trades ++ session_with 9860 325) (of_day 9860) t
 
--- a trade by this ticket
-abbrev pub by_ticket : Paper → History → List Row
-by_ticket ticket h = trade_rows weekdays h ticket (between 0 1 10000 1)
+-- the rows of a trade by this ticket
+abbrev pub rows_by_ticket : Paper → History → List Row
+rows_by_ticket ticket h = trade_rows weekdays h ticket (trade_between 0 1 10000 1)
 
 -- 32 accounts, and one that is there
 abbrev pub enter_edges : List (List Row × Option Refusal)
@@ -130,6 +126,9 @@ publish_edges =
 abbrev pub arbitrate_edges : List (List Row × Option Refusal)
 arbitrate_edges =
     (arbitrate_rows weekdays [] 9859 1, Some OutsideHorizon)
+    ∷ (arbitrate_rows weekdays [] 9869 1, None)
+    ∷ (arbitrate_rows weekdays [] 9870 1, Some OutsideHorizon)
+    ∷ (arbitrate_rows rated_before [] 9860 1, Some HasRate)
     ∷ (arbitrate_rows weekdays (Published 9860 0 ∷ []) 9860 1, Some HasRate)
     ∷ (arbitrate_rows weekdays (Arbitrated 9860 0 ∷ []) 9860 1, Some HasRate)
     ∷ (arbitrate_rows (arbitrated_before 16) [] 9860 100000000, Some RateTooHigh)
@@ -156,48 +155,49 @@ open_edges =
 -- tickets, indices, expiries, sides, quantities, rates, days, positions, trades
 abbrev pub trade_edges : List (List Row × Option Refusal)
 trade_edges =
-    (by_ticket (of_day 9860) two_months, None)
-    ∷ (by_ticket (of_another_book 9860) two_months, Some NotCurrent)
-    ∷ (by_ticket (of_day 9861) two_months, Some NotCurrent)
-    ∷ (by_ticket (of_day 9860) closed_once, Some NotCurrent)
+    (rows_by_ticket (of_day 9860) two_months, None)
+    ∷ (rows_by_ticket (of_another_book 9860) two_months, Some NotCurrent)
+    ∷ (rows_by_ticket (of_day 9861) two_months, Some NotCurrent)
+    ∷ (rows_by_ticket (of_day 9860) closed_once, Some NotCurrent)
     -- indices
-    ∷ (after_trades [] (between 2 0 10000 1), None)
-    ∷ (after_trades [] (between 3 0 10000 1), Some NoSuchIndex)
-    ∷ (after_trades [] (between 0 3 10000 1), Some NoSuchIndex)
-    ∷ (after_trades [] (record { buyer = 0; seller = 1; month = 2; rate = 10000; quantity = 1; price = 0 }), Some NoSuchIndex)
+    ∷ (rows_after [] (trade_between 2 0 10000 1), None)
+    ∷ (rows_after [] (trade_between 3 0 10000 1), Some NoSuchIndex)
+    ∷ (rows_after [] (trade_between 0 3 10000 1), Some NoSuchIndex)
+    ∷ (rows_after [] (record { buyer = 0; seller = 1; month = 2; rate = 10000; quantity = 1; price = 0 }), Some NoSuchIndex)
     -- January 2027, which expires on 9,862
-    ∷ (trade_rows weekdays (session_with 9861 324) (of_day 9861) (between 0 1 10000 1), None)
-    ∷ (trade_rows weekdays (session_with 9862 324) (of_day 9862) (between 0 1 10000 1), Some Expired)
-    ∷ (after_trades [] (between 1 1 10000 0), Some SameSides)
+    ∷ (trade_rows weekdays (session_with 9861 324) (of_day 9861) (trade_between 0 1 10000 1), None)
+    ∷ (trade_rows weekdays (session_with 9862 324) (of_day 9862) (trade_between 0 1 10000 1), Some Expired)
+    -- sides
+    ∷ (rows_after [] (trade_between 1 1 10000 0), Some SameSides)
     -- quantities
-    ∷ (after_trades [] (between 0 1 100000 0), Some BadQuantity)
-    ∷ (after_trades [] (between 0 1 10000 20000), None)
-    ∷ (after_trades [] (between 0 1 10000 20001), Some BadQuantity)
+    ∷ (rows_after [] (trade_between 0 1 100000 0), Some BadQuantity)
+    ∷ (rows_after [] (trade_between 0 1 10000 20000), None)
+    ∷ (rows_after [] (trade_between 0 1 10000 20001), Some BadQuantity)
     -- rates: the highest; three months on and four; twelve and thirteen
-    ∷ (rate_in 325 99999, None)
-    ∷ (rate_in 325 100000, Some BadRate)
-    ∷ (rate_in 326 4, None)
-    ∷ (rate_in 327 4, Some BadRate)
-    ∷ (rate_in 327 5, None)
-    ∷ (rate_in 335 15, None)
-    ∷ (rate_in 336 15, Some BadRate)
-    ∷ (rate_in 336 20, None)
+    ∷ (rows_at_rate 325 99999, None)
+    ∷ (rows_at_rate 325 100000, Some BadRate)
+    ∷ (rows_at_rate 326 4, None)
+    ∷ (rows_at_rate 327 4, Some BadRate)
+    ∷ (rows_at_rate 327 5, None)
+    ∷ (rows_at_rate 335 15, None)
+    ∷ (rows_at_rate 336 15, Some BadRate)
+    ∷ (rows_at_rate 336 20, None)
     -- three months from January, four from December
-    ∷ (trade_rows weekdays (session_with 9865 327) (of_day 9865) (between 0 1 4 1), None)
+    ∷ (trade_rows weekdays (session_with 9865 327) (of_day 9865) (trade_between 0 1 4 1), None)
     -- September 2036, 2,520 reserve days after 9,865 and 2,521 after 9,862
-    ∷ (trade_rows weekdays (session_with 9865 440) (of_day 9865) (between 0 1 10000 1), None)
-    ∷ (trade_rows weekdays (session_with 9862 440) (of_day 9862) (between 0 1 10000 1), Some TooFar)
+    ∷ (trade_rows weekdays (session_with 9865 440) (of_day 9865) (trade_between 0 1 10000 1), None)
+    ∷ (trade_rows weekdays (session_with 9862 440) (of_day 9862) (trade_between 0 1 10000 1), Some TooFar)
     -- 480,000 and 500,000 contracts: the buyer has sold so many in price, the seller bought
-    ∷ (after_trades (dealt 24 20000) (between 0 1 10000 20000), None)
-    ∷ (after_trades (dealt 25 20000) (between 0 2 10000 1), Some PositionLimit)
-    ∷ (after_trades (dealt 25 20000) (between 2 1 10000 1), Some PositionLimit)
-    ∷ (after_trades (dealt 25 20000) (between 1 0 10000 1), None)
-    ∷ (after_trades (dealt 25 20000) (record { buyer = 0; seller = 2; month = 0; rate = 10000; quantity = 1; price = 0 }), None)
+    ∷ (rows_after (dealt 24 20000) (trade_between 0 1 10000 20000), None)
+    ∷ (rows_after (dealt 25 20000) (trade_between 0 2 10000 1), Some PositionLimit)
+    ∷ (rows_after (dealt 25 20000) (trade_between 2 1 10000 1), Some PositionLimit)
+    ∷ (rows_after (dealt 25 20000) (trade_between 1 0 10000 1), None)
+    ∷ (rows_after (dealt 25 20000) (record { buyer = 0; seller = 2; month = 0; rate = 10000; quantity = 1; price = 0 }), None)
     -- trades of the session
-    ∷ (after_trades (dealt 255 1) (between 0 1 10000 1), None)
-    ∷ (after_trades (dealt 256 1) (between 0 1 10000 1), Some SessionFull)
+    ∷ (rows_after (dealt 255 1) (trade_between 0 1 10000 1), None)
+    ∷ (rows_after (dealt 256 1) (trade_between 0 1 10000 1), Some SessionFull)
     -- those of the session before count for nothing
-    ∷ (trade_rows weekdays (Opened 9861 ∷ Closed (both (pos 0)) ∷ (dealt 256 1 ++ session_with 9860 325)) (of_day 9861) (between 0 1 10000 1), None)
+    ∷ (trade_rows weekdays (Opened 9861 ∷ Closed (both (pos 0)) ∷ (dealt 256 1 ++ session_with 9860 325)) (of_day 9861) (trade_between 0 1 10000 1), None)
     ∷ []
 
 -- tickets, indices, expiries, prices
@@ -240,6 +240,7 @@ close_edges =
     ∷ (close_rows weekdays (Paid ∷ Opened 9861 ∷ Closed (both (pos 0)) ∷ Opened 9860 ∷ []) (of_day 9861) 0 0, Some (MissingRate 9860))
     -- three accounts in two months
     ∷ (close_rows weekdays (Marked 1 1 ∷ Marked 0 1 ∷ two_months) (of_day 9860) 6 6, None)
+    ∷ (close_rows weekdays (Marked 1 1 ∷ Marked 0 1 ∷ two_months) (of_day 9860) 7 7, None)
     ∷ (close_rows weekdays (Marked 1 1 ∷ Marked 0 1 ∷ two_months) (of_day 9860) 5 6, Some ArrayShort)
     ∷ (close_rows weekdays (Marked 1 1 ∷ Marked 0 1 ∷ two_months) (of_day 9860) 6 5, Some ArrayShort)
     ∷ []
@@ -281,7 +282,7 @@ price_edges =
     ∷ (settlement_price weekdays (Opened 2 ∷ []) 0, 0)
     ∷ []
 
--- each table gives what stands beside it
+-- the tables give what stands beside them; indices, lines and papers are as shown
 pub record EdgesHold : Type 0 where
   pub enter : Give enter_edges
   pub list : Give list_edges

@@ -24,6 +24,10 @@ book_over exceptions = record {
   arbitrated = 0;
 }
 
+-- Monday to Friday are sessions; the start day is 9,860, Wednesday 30 December 2026; the horizon is 9,860 to 9,869, with no rate yet
+abbrev pub weekdays : World
+weekdays = book_over []
+
 -- an account of a client
 abbrev pub client : ℕ → Account
 client number = record { client = number; participant = 1; member = 1 }
@@ -95,10 +99,6 @@ pub record RunSeen : Type 0 where
 
 -- ---- the tolerance used to the full
 
--- no exceptions
-abbrev pub full_world : World
-full_world = book_over []
-
 -- one contract of February 2027 over a reserve day of the factor 1.00035: the price 9,910,000 becomes 9,913,468.5, and rounding adds half a centavo
 abbrev pub full_history : History
 full_history =
@@ -119,6 +119,6 @@ full_history =
 -- the two sides for account 1 in month 0 are equal, and not 0
 abbrev pub FullHolds : Type 0
 FullHolds =
-    Lawful full_world full_history
-    × (apart_of full_world full_history 1 0 ≡ tolerance_of full_world full_history 1 0)
-    × (tolerance_of full_world full_history 1 0 ≡ 1000000000)
+    Lawful weekdays full_history
+    × (apart_of weekdays full_history 1 0 ≡ tolerance_of weekdays full_history 1 0)
+    × (tolerance_of weekdays full_history 1 0 ≡ 1000000000)

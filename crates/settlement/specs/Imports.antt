@@ -19,7 +19,7 @@ abbrev pub AllAccepted : World → History → Paper → List Trade → Type 0
 AllAccepted w h ticket [] = Unit {0}
 AllAccepted w h ticket (t ∷ ts) = Allowed (line_rows w h ticket t) × AllAccepted w (Traded (line_trade w h t) ∷ h) ticket ts
 
--- why the first of the lines that are left is refused, if there is one and it is
+-- why the first of these lines is refused; none where it is accepted or there is none
 abbrev pub refusal_at : World → History → Paper → List Trade → Option Refusal
 refusal_at w h ticket [] = None
 refusal_at w h ticket (t ∷ ts) = first_row (line_rows w h ticket t)

@@ -16,9 +16,9 @@ use Rattle.settlement.specs.Rows.{Paper, enter_rows, list_rows, publish_rows, ar
 abbrev pub Allowed : List Row → Type 0
 Allowed rows = first_row rows ≡ None
 
--- the price of a trade of the session
-abbrev pub price_of : World → History → Trade → ℕ
-price_of w h t = trade_price t.rate (days_to w.kinds (session_day h) (month_at h t.month))
+-- the price of a trade on a day
+abbrev pub price_on : World → History → ℕ → Trade → ℕ
+price_on w h day t = trade_price t.rate (days_to w.kinds day (month_at h t.month))
 
 -- the account and the month are in the book
 abbrev pub InBook : History → ℕ → ℕ → Type 0
@@ -28,8 +28,8 @@ InBook h a m = (a < length (accounts_of h)) × (m < length (months_of h))
 pub record Settles (w : World) (h : History) (c : Amounts) : Type 0 where
   pub adjustments : (a m : ℕ) → InBook h a m → c.adjustments a m ≡ adjustment_at w h a m
   pub day_trades : (a m : ℕ) → InBook h a m → c.day_trades a m ≡ day_trade a m (trades_of h)
-  pub no-adjustments : (a m : ℕ) → (InBook h a m → ⊥) → c.adjustments a m ≡ pos 0
-  pub no-day-trades : (a m : ℕ) → (InBook h a m → ⊥) → c.day_trades a m ≡ pos 0
+  pub no_adjustments : (a m : ℕ) → (InBook h a m → ⊥) → c.adjustments a m ≡ pos 0
+  pub no_day_trades : (a m : ℕ) → (InBook h a m → ⊥) → c.day_trades a m ≡ pos 0
 
 -- a close by some ticket, into arrays of some lengths
 pub record Closes (w : World) (h : History) (c : Amounts) : Type 0 where
@@ -46,7 +46,7 @@ Accepts w h (Listed n) = Allowed (list_rows w h n)
 Accepts w h (Published d r) = Allowed (publish_rows w h d r 1)
 Accepts w h (Arbitrated d r) = Allowed (arbitrate_rows w h d r)
 Accepts w h (Opened d) = Allowed (open_rows w h) × (next_session w h ≡ Some d)
-Accepts w h (Traded t) = ((ticket : Paper) × Allowed (trade_rows w h ticket t)) × (t.price ≡ price_of w h t)
+Accepts w h (Traded t) = ((ticket : Paper) × Allowed (trade_rows w h ticket t)) × (t.price ≡ price_on w h (session_day h) t)
 Accepts w h (Marked m p) = (ticket : Paper) × Allowed (mark_rows w h ticket m p)
 Accepts w h (Closed c) = Closes w h c
 Accepts w h Paid = (slip : Paper) × Allowed (pay_rows w h slip)

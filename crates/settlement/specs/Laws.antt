@@ -29,7 +29,7 @@ RatesStay = (w : World) (k h : History) (d r : ℕ) → Lawful w (k ++ h) → ra
 abbrev pub PositionsBalance : Type 0
 PositionsBalance = (w : World) (h : History) (m : ℕ) → Lawful w h → total (λ a. position_of w h a m) account_indices ≡ pos 0
 
--- the expiry of a listed month is a session day, and no session on it or after it is opened unless it was opened itself
+-- the expiry of a listed month is a session day, and where a session after it was opened, it was opened too
 abbrev pub ExpiryMet : Type 0
 ExpiryMet = (w : World) (h : History) (m : ℕ) → Lawful w h → m < length (months_of h)
     → (is_session (w.kinds (expiry_at w h m)) ≡ true)

@@ -33,7 +33,7 @@ pub record PricesWithin (w : World) (h : History) : Type 0 where
   -- of all trades so far
   pub dealt : AllByRecursion (λ t. (1 ≤ t.price) × (t.price ≤ 10000000)) (gather traded h)
 
--- so in every lawful history
+-- in every lawful history
 abbrev pub PricesLimited : Type 0
 PricesLimited = (w : World) (h : History) → Lawful w h → PricesWithin w h
 
@@ -57,16 +57,16 @@ NothingOutside = (w : World) (h : History) → Lawful w h
 abbrev pub RatesLimited : (ℕ → Option ℕ) → Type 0
 RatesLimited rates = (d r : ℕ) → rates d ≡ Some r → r ≤ 99999999
 
--- over a world of such rates there is never another
+-- where no rate of the source is over 99,999,999, none ever is
 abbrev pub RatesStayLimited : Type 0
 RatesStayLimited = (w : World) (h : History) → RatesLimited w.rates → Lawful w h → RatesLimited (rate_on w h)
 
--- what a close wrote for an account, in each month and in all months together
+-- the adjustments that a close wrote for an account, in each month and in all months together
 pub record AmountsWithin (c : Amounts) : Type 0 where
   pub each : (a m : ℕ) → unsigned_abs (c.adjustments a m) ≤ 60000000000000
   pub together : (a : ℕ) → unsigned_abs (written_for a c) ≤ 160000000000000
 
--- so of every close, over a world of such rates
+-- every close, where no rate of the source is over 99,999,999
 abbrev pub AmountsLimited : Type 0
 AmountsLimited = (w : World) (h : History) → RatesLimited w.rates → Lawful w h → AllByRecursion AmountsWithin (gather written h)
 
@@ -77,7 +77,7 @@ pub record DuesWithin (h : History) (a : ℕ) : Type 0 where
   -- paid and due are of all closes together
   pub together : unsigned_abs (paid_of h a) + unsigned_abs (due_of h a) ≤ length (gather written h) * 160000000000000
 
--- so over a world of such rates
+-- every account, under the same condition
 abbrev pub DuesLimited : Type 0
 DuesLimited = (w : World) (h : History) (a : ℕ) → RatesLimited w.rates → Lawful w h → DuesWithin h a
 

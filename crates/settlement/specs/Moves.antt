@@ -1,14 +1,12 @@
 -- More laws: what moves positions, due and paid; what holds of the trades of every session; when a month has ended.
 use Rattle.std.specs.Prelude.{◌≡◌, ℕ, ◌<◌, Bool, false, cond, ◌&&◌, ◌∷◌, length, pos, ◌+ℤ◌, Some, None, nat_le, nat_lt}
 use Rattle.std.specs.List.{AllByRecursion}
-use Rattle.interest.specs.Price.{trade_price}
-use Rattle.pricing.specs.Pricing.{days_to}
 use Rattle.amounts.specs.declared.trades.Trade.{Trade}
 use Rattle.amounts.specs.Trades.{contracts_of}
 use Rattle.amounts.specs.DayTrades.{day_trade}
 use Rattle.settlement.specs.History.{History, Event, Amounts, Traded, Closed, Paid, traded, written, is_payment}
-use Rattle.settlement.specs.Lawful.{Lawful}
-use Rattle.settlement.specs.Observed.{months_of, is_listed, month_at, expiry_at, session_day, open_session, trades_of}
+use Rattle.settlement.specs.Lawful.{price_on, Lawful}
+use Rattle.settlement.specs.Observed.{months_of, is_listed, expiry_at, session_day, open_session, trades_of}
 use Rattle.settlement.specs.Positions.{has_ended, position_of, written_for, due_of, paid_of}
 use Rattle.settlement.specs.Sessions.{sessions_of}
 use Rattle.settlement.specs.World.{World}
@@ -46,7 +44,7 @@ InTime w h day t = (t.month < length (months_of h)) × (day < expiry_at w h t.mo
 
 -- a trade at the price that the rules give on the day
 abbrev pub AtPrice : World → History → ℕ → Trade → Type 0
-AtPrice w h day t = t.price ≡ trade_price t.rate (days_to w.kinds day (month_at h t.month))
+AtPrice w h day t = t.price ≡ price_on w h day t
 
 -- trades are in listed months, and their sessions before the expiry
 abbrev pub TradesInTime : Type 0
@@ -65,7 +63,7 @@ pub record EndedBy : Type 0 where
   -- while a session is open: if its expiry is before the session
   pub during : (w : World) (h : History) (d m : ℕ) → Lawful w h → open_session h ≡ Some d → m < length (months_of h)
       → has_ended w h m ≡ nat_lt (expiry_at w h m) d
-  -- while none is: if its expiry is not after the latest session, and so not before the first, when that day is 0
+  -- while none is: if its expiry is not after the latest session; before the first, whose day counts as 0, no month has
   pub between : (w : World) (h : History) (m : ℕ) → Lawful w h → open_session h ≡ None → m < length (months_of h)
       → has_ended w h m ≡ nat_le (expiry_at w h m) (session_day h)
 

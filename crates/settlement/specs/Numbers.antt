@@ -13,7 +13,7 @@ use Rattle.settlement.specs.World.{World}
 abbrev pub numbers_of : List Row → List ℕ
 numbers_of rows = map (λ row. refusal_number row.1) rows
 
--- of each call
+-- the numbers of each call's rows
 pub record RowsNumbered : Type 0 where
   pub enter : (h : History) (x : Account) → numbers_of (enter_rows h x) ≡ 18 ∷ 19 ∷ []
   pub list : (w : World) (h : History) (n : ℕ) → numbers_of (list_rows w h n) ≡ 18 ∷ 19 ∷ 20 ∷ []

@@ -41,11 +41,11 @@ rate_on w h d = or_else (newest (rated d) h) (w.rates d)
 abbrev pub opened_days : History → List ℕ
 opened_days h = gather opened h
 
--- the latest of them, open or closed
+-- the latest session that was opened, open or closed
 abbrev pub latest_opened : History → Option ℕ
 latest_opened h = newest opened h
 
--- its day, 0 before the first
+-- the day of the latest session, 0 before the first
 abbrev pub session_day : History → ℕ
 session_day h = unwrap_or (latest_opened h) 0
 
@@ -74,6 +74,6 @@ trades_of h = gather traded (since_opened h)
 abbrev pub mark_of : History → ℕ → Option ℕ
 mark_of h m = newest (marked m) (since_opened h)
 
--- the settlement price of a month in the session, in centavos: 10,000,000 on its expiry, else the latest mark, 0 without one
+-- the settlement price of a month in the session, in centavos: 10,000,000 on the expiry of a listed month, else the latest mark, 0 without one
 abbrev pub settlement_price : World → History → ℕ → ℕ
 settlement_price w h m = cond (is_listed h m && session_day h == expiry_at w h m) 10000000 (unwrap_or (mark_of h m) 0)

@@ -22,7 +22,7 @@ contracts_in a m ss = total (λ s. position_change a m s.trades) ss
 abbrev pub position_of : World → History → ℕ → ℕ → ℤ
 position_of w h a m = cond (has_ended w h m) (pos 0) (position_change a m (gather traded h))
 
--- the position that the session began with: over the trades of closed sessions
+-- the position that the session began with: over the trades of closed sessions, and 0 once the month has ended
 abbrev pub carried_of : World → History → ℕ → ℕ → ℤ
 carried_of w h a m = cond (has_ended w h m) (pos 0) (contracts_in a m (sessions_of w h))
 

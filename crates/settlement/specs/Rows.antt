@@ -42,7 +42,7 @@ ticket_row w h ticket = (not (is_of w ticket (open_session h)), NotCurrent)
 abbrev pub expired_row : World → History → ℕ → Row
 expired_row w h m = (nat_le (expiry_at w h m) (session_day h), Expired)
 
--- an account
+-- to enter an account
 abbrev pub enter_rows : History → Account → List Row
 enter_rows h x =
     (nat_le 32 (length (accounts_of h)), TableFull)
@@ -54,7 +54,7 @@ abbrev pub lacks_expiry : World → History → Option ℕ → Bool
 lacks_expiry w h None = true
 lacks_expiry w h (Some expiry) = nat_le expiry w.start || nat_le expiry (session_day h)
 
--- a month, by its number
+-- to list a month, by its number
 abbrev pub list_rows : World → History → ℕ → List Row
 list_rows w h n =
     (nat_le 16 (length (months_of h)), TableFull)
@@ -62,16 +62,16 @@ list_rows w h n =
     ∷ (lacks_expiry w h (expiry_of w.kinds n), NoExpiry)
     ∷ []
 
--- a day, a rate and a period in reserve days
+-- to publish: a day, a rate and a period in reserve days
 abbrev pub publish_rows : World → History → ℕ → ℕ → ℕ → List Row
 publish_rows w h day rate period = publishing.publish_rows w.horizon (rate_on w h day) day rate period
 
--- a day and a rate
+-- to arbitrate: a day and a rate
 abbrev pub arbitrate_rows : World → History → ℕ → ℕ → List Row
 arbitrate_rows w h day rate =
     layers.arbitrate_rows w.horizon (rate_on w h day) day rate (w.arbitrated + length (gather arbitrated h))
 
--- the next session
+-- to open the next session
 abbrev pub open_rows : World → History → List Row
 open_rows w h =
     (is_some (open_session h), SessionOpen)
@@ -82,7 +82,7 @@ open_rows w h =
 abbrev pub is_over : ℤ → Bool
 is_over position = nat_lt 500000 (unsigned_abs position)
 
--- a trade; its price is not looked at
+-- to trade; the price is not looked at
 abbrev pub trade_rows : World → History → Paper → Trade → List Row
 trade_rows w h ticket t =
     ticket_row w h ticket
@@ -96,7 +96,7 @@ trade_rows w h ticket t =
     ∷ (nat_le 256 (length (trades_of h)), SessionFull)
     ∷ []
 
--- the index of a month and a price
+-- to mark: the index of a month and a price
 abbrev pub mark_rows : World → History → Paper → ℕ → ℕ → List Row
 mark_rows w h ticket m price =
     ticket_row w h ticket
@@ -117,7 +117,7 @@ first_unmarked w h = first_in (filter (is_unmarked w h) (range_with_len 0 (lengt
 abbrev pub cells_of : History → ℕ
 cells_of h = length (accounts_of h) * length (months_of h)
 
--- a close into arrays of these lengths
+-- to close into arrays of these lengths
 abbrev pub close_rows : World → History → Paper → ℕ → ℕ → List Row
 close_rows w h ticket adjustments day_trades =
     ticket_row w h ticket
@@ -127,18 +127,18 @@ close_rows w h ticket adjustments day_trades =
     ∷ (nat_lt adjustments (cells_of h) || nat_lt day_trades (cells_of h), ArrayShort)
     ∷ []
 
--- a payment by a slip
+-- to pay by a slip
 abbrev pub pay_rows : World → History → Paper → List Row
 pay_rows w h slip =
     (not (is_of w slip (unpaid_day w h)), NotCurrent)
     ∷ (not (is_some (open_session h)), NoLaterSession)
     ∷ []
 
--- the position of an account in a month
+-- to ask for the position of an account in a month
 abbrev pub position_rows : History → ℕ → ℕ → List Row
 position_rows h a m = (not (is_account h a && is_listed h m), NoSuchIndex) ∷ []
 
--- what is paid and due of an account
+-- to ask what is paid and due of an account
 abbrev pub balance_rows : History → ℕ → List Row
 balance_rows h a = (not (is_account h a), NoSuchIndex) ∷ []
 

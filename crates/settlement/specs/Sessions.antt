@@ -17,7 +17,7 @@ pub record Session : Type 0 where
 abbrev pub closed_with : World → History → Amounts → Session
 closed_with w h c = record { day = session_day h; trades = trades_of h; prices = settlement_price w h; amounts = c }
 
--- a session more where there was a close
+-- the sessions, with one more where there was a close
 abbrev pub added : World → History → Option Amounts → List Session → List Session
 added w h None ss = ss
 added w h (Some c) ss = closed_with w h c ∷ ss
@@ -27,7 +27,7 @@ abbrev pub sessions_of : World → History → List Session
 sessions_of w [] = []
 sessions_of w (e ∷ h) = added w h (written e) (sessions_of w h)
 
--- the latest closed session
+-- the day of the latest closed session
 abbrev pub latest_closed : World → History → Option ℕ
 latest_closed w h = first_in (map (λ s. s.day) (sessions_of w h))
 
@@ -40,12 +40,12 @@ abbrev pub oldest_day : ℕ → List Session → ℕ
 oldest_day d [] = d
 oldest_day d (s ∷ ss) = oldest_day s.day ss
 
--- the day of the newest; 0 where there is none
+-- the day of the newest of sessions; 0 where there is none
 abbrev pub newest_day : List Session → ℕ
 newest_day [] = 0
 newest_day (s ∷ ss) = s.day
 
--- the price of a month in the newest; 0 where there is none
+-- the price of a month in the newest of sessions; 0 where there is none
 abbrev pub newest_price : ℕ → List Session → ℕ
 newest_price m [] = 0
 newest_price m (s ∷ ss) = s.prices m

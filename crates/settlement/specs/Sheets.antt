@@ -69,7 +69,7 @@ write_rows room trades =
     ∷ (nat_lt most_trades (length trades) || not (is_each (λ t. leb t.month last_month) trades), BadSheet)
     ∷ []
 
--- the rows say what reading and writing a sheet say of their faults; a line's month has an index in the book exactly if it is listed, and is refused by that row if not
+-- the rows say what reading and writing a sheet say of their faults; a line's month has an index in the book exactly if it is listed; if not, with the open session's ticket, the line is refused for its index
 pub record SheetRows : Type 0 where
   pub read : (day : ℕ) (bytes : List ℕ) → Sheet bytes → OnDay (Some day) (day_of bytes) → first_row (import_rows day bytes) ≡ None
   pub unread : (day : ℕ) (bytes : List ℕ) (f : SheetFault) → Refused bytes (Some day) f → first_row (import_rows day bytes) ≡ Some (fault_refusal f)

@@ -28,7 +28,7 @@ scale_of kinds rates first last d =
 abbrev pub adjustments_over : (ℕ → ℕ) → ℕ → ℕ → List Session → ℤ
 adjustments_over scale a m ss = total (λ s. s.amounts.adjustments a m *ℤ pos (scale s.day)) ss
 
--- the value of its trades, each price carried; contracts are + for the seller in rate and − for the buyer
+-- the value of the account's trades in the month, each price carried; contracts are + for the seller in rate and − for the buyer
 abbrev pub value_over : (ℕ → ℕ) → ℕ → ℕ → ℕ → List Session → ℤ
 value_over scale last_carried a m ss =
     total (λ s. total (λ t. contracts_of a m t *ℤ (pos last_carried -ℤ pos (t.price * scale s.day))) s.trades) ss
@@ -55,7 +55,7 @@ first_closed w h = oldest_day 0 (sessions_of w h)
 abbrev pub last_closed : World → History → ℕ → ℕ
 last_closed w h m = newest_day (counted_of w h m)
 
--- what an amount of a day is multiplied by
+-- the same, from the book's first closed session to the month's last
 abbrev pub scale_in : World → History → ℕ → ℕ → ℕ
 scale_in w h m = scale_of w.kinds (rate_on w h) (first_closed w h) (last_closed w h m)
 

@@ -4,7 +4,7 @@ use Rattle.std.specs.Prelude.{ℕ, Option}
 use Rattle.calendar.specs.declared.kind.DayKind.{DayKind}
 use Rattle.rates.specs.declared.horizon.Horizon.{Horizon}
 
--- as they are when the book is made
+-- the world of a book when it is made
 pub record World : Type 0 where
   pub number : ℕ
   pub start : ℕ

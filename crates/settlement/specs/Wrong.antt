@@ -38,7 +38,7 @@ wrong_history x y =
 abbrev pub right_history : History
 right_history = wrong_history (pos 5000) (pos 170920)
 
--- what wrong closes wrote for account 1; in each pair but the first the second amount begins with 40 × (9,885,000 − 9,887,797), as it should
+-- what wrong closes wrote for account 1; in each pair but the first and the last the second amount begins with 40 × (9,885,000 − 9,887,797), as it should
 abbrev pub wrong_amounts : List (ℤ × ℤ)
 wrong_amounts =
     -- the sides are not turned: both amounts with the opposite sign
