@@ -30,9 +30,10 @@ pub fn laws_hold()
     ensures imports { ImportsHold }
 {}
 
-// Lawful histories with their figures: a month to its end; one with day trades, a late account, a late
-// month and a session after an expiry; one in which the rounding uses the tolerance to the full; and
-// one beside which wrong books, which balance, break the second claim.
+// Lawful histories with their figures, and what closes know in them: a month to its end; one with day
+// trades, a late account, a late month and a session after an expiry, and one in which the order of
+// trades tells; one in which the rounding uses the tolerance to the full; and one beside which wrong
+// books, which balance, break the second claim.
 pub fn examples_hold()
     ensures run { RunHolds }
     ensures seen { RunSeen }
