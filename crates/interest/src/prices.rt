@@ -8,11 +8,11 @@ use crate::powers::{ONE, Target, YEAR, raised};
 use std::fmt;
 
 // The greatest DI rate, in millionths of a percent.
-const DI_MOST: u32 = 99_999_999;
+pub const MAX_DI_RATE: u32 = 99_999_999;
 // The greatest dealt rate, in thousandths of a percent.
-pub const DEALT_MOST: u32 = 99_999;
+pub const MAX_DEALT_RATE: u32 = 99_999;
 // The most reserve days to an expiry.
-const DAYS_MOST: u32 = 2_520;
+pub const MAX_RESERVE_DAYS: u32 = 2_520;
 
 // Why a dealt rate has no price.
 #[derive(Clone, Copy, PartialEq, Eq, Debug)]
@@ -48,7 +48,7 @@ fn to_eight_decimals(factor: u64) -> u32
 pub fn day_factor(rate: u32) -> Option<u32>
     ensures { MatchOption result (99999999 < rate) (λ g. DayFactor rate g) }
 {
-    if rate > DI_MOST {
+    if rate > MAX_DI_RATE {
         return None;
     }
     let target = Target {
@@ -79,10 +79,10 @@ impl Dealt {
     fn new(rate: u32, days: u32) -> Result<Dealt, Unpriceable>
         ensures { MatchResult result (λ d. (d.rate ≡ rate) × (d.days ≡ days)) (λ e. Refused rate days e) }
     {
-        if rate > DEALT_MOST {
+        if rate > MAX_DEALT_RATE {
             return Err(Unpriceable::RateTooHigh);
         }
-        if days > DAYS_MOST {
+        if days > MAX_RESERVE_DAYS {
             return Err(Unpriceable::TooFar);
         }
         Ok(Dealt { rate, days })

@@ -1,8 +1,10 @@
+pub mod Errors
 pub mod Horizons
 pub mod Layers
-pub mod Listed
+pub mod ArbitratedDays
+pub mod Meanings
 pub mod Publishing
 pub mod TableSources
 pub mod Tables
 pub mod Layering
-pub mod Listing
+pub mod DayLaws

@@ -1,13 +1,16 @@
 // A table of rates, one entry a day.
-ghost use Rattle.std.specs.Prelude.{◌≡◌, ℕ, min, IfOk, None, vec_len, slice_index};
+ghost use Rattle.std.specs.Prelude.{◌≡◌, ℕ, ◌≤◌, min, IfOk, None, vec_len, slice_index};
 ghost use Rattle.rates.specs.Tables.{entry_rate};
-ghost use Rattle.rates.specs.TableSources.{table_horizon, table_rates};
+ghost use Rattle.rates.specs.Meanings.{rates_of, published_in};
+ghost use Rattle.rates.specs.Publishing.{DayFree, Sets};
+ghost use Rattle.rates.specs.TableSources.{table_horizon, table_meaning};
 ghost use Rattle.std.proofs.Common.{rules};
 
 use crate::entry::DayRate;
+use crate::error::Error;
 use crate::horizon::Horizon;
-use crate::source::{HIGHEST_RATE, Publishing, RateSource, check_day};
-use refusal::Refusal;
+use crate::source::{Publishing, RateSource, check_day};
+use interest::MAX_DI_RATE;
 use std::alloc::{AllocError, Global};
 
 // An entry is 0 where the day has no rate, and otherwise the rate plus one; an entry above the
@@ -23,7 +26,7 @@ pub struct TableSource {
 fn rate_of_entry(entry: u32) -> Option<u32>
     ensures { result ≡ entry_rate entry }
 {
-    entry.checked_sub(1).filter(|rate| *rate <= HIGHEST_RATE)
+    entry.checked_sub(1).filter(|rate| *rate <= MAX_DI_RATE)
 }
 
 // Entries without a rate, for so many days.
@@ -43,7 +46,7 @@ impl TableSource {
 
     // No day has a rate.
     pub fn empty(heap: Global, first: u32, count: u32) -> Result<TableSource, AllocError>
-        ensures { IfOk result (λ s. (table_horizon s ≡ record { first = first; count = count }) × ((d : ℕ) → table_rates s d ≡ None)) }
+        ensures { IfOk result (λ s. (table_horizon s ≡ record { first = first; count = count }) × ((d : ℕ) → rates_of (table_meaning s) d ≡ None)) }
     {
         let entries = no_rates(heap, count)?;
         Ok(TableSource { first, entries })
@@ -58,13 +61,7 @@ impl TableSource {
 }
 
 impl RateSource for TableSource {
-    ghost horizons = { table_horizon };
-
-    ghost rates = { table_rates };
-
-    ghost arbitrated = { λ x. 0 };
-
-    ghost outside = { Prim.search rules };
+    ghost meaning = { table_meaning };
 
     ghost bounded = { Prim.search rules };
 
@@ -83,17 +80,30 @@ impl RateSource for TableSource {
     }
 }
 
-impl Publishing for TableSource {
-    fn publish(&mut self, entry: DayRate, period: u32) -> Result<(), Refusal> {
-        check_day(self, entry.day)?;
-        if entry.rate > HIGHEST_RATE {
-            return Err(Refusal::RateTooHigh);
-        }
-        if period != 1 {
-            return Err(Refusal::BadPeriod);
-        }
+impl TableSource {
+    // Writes the rate of a day that has none.
+    #[tactic(auto, using(crate::proofs::TableWriting::table_publishes, crate::proofs::TableWriting::table_sets))]
+    fn write(&mut self, entry: DayRate)
+        requires free { DayFree (table_meaning self.old) entry.day }
+        requires limit { entry.rate ≤ 99999999 }
+        ensures meant { table_meaning self.new ≡ published_in (table_meaning self.old) entry }
+        ensures sets { Sets (rates_of (table_meaning self.old)) entry (rates_of (table_meaning self.new)) }
+    {
         let at = (entry.day - self.first) as usize;
         self.entries[at] = entry.rate + 1;
+    }
+}
+
+impl Publishing for TableSource {
+    fn publish(&mut self, entry: DayRate, period: u32) -> Result<(), Error> {
+        check_day(self, entry.day)?;
+        if entry.rate > MAX_DI_RATE {
+            return Err(Error::RateTooHigh);
+        }
+        if period != 1 {
+            return Err(Error::BadPeriod);
+        }
+        self.write(entry);
         Ok(())
     }
 }

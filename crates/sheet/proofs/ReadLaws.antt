@@ -5,7 +5,7 @@ use Rattle.std.proofs.ByRecursion.{All-from_get_or}
 use Rattle.std.specs.List.{slice_get}
 use Rattle.std.proofs.lemmas.List.{drop_all, drop_more}
 use Rattle.std.proofs.lemmas.Option.{slice_get_cases, slice_get_within, get_or_from_slice_get, none-some}
-use Rattle.sheet.specs.declared.trade.Trade.{Trade}
+use Rattle.sheet.specs.declared.trade.TradeLine.{TradeLine}
 use Rattle.sheet.specs.declared.trade.SheetFault.{SheetFault}
 use Rattle.sheet.specs.declared.trade.SheetFault.TheVariants.{Length, Count, Day, Code}
 use Rattle.sheet.specs.declared.view.SheetView.{SheetView}
@@ -17,7 +17,7 @@ use Rattle.sheet.proofs.SheetLaws.{Bytes, length-lines, written_back, read_back,
 pub bytes-from-fits : (b : List ℕ) → ((i : ℕ) → Fits w8 (get_or b i 0)) → Bytes b
 bytes-from-fits b h = All-from_get_or (λ x. x < 256) b 0 (λ i _. (h i).fits)
 
-pub trade-found : (b : List ℕ) (r : Option Trade) (t : Trade) → MatchOption r (NoCode b) (λ x. x ≡ t) → IsCode b → r ≡ Some t
+pub trade-found : (b : List ℕ) (r : Option TradeLine) (t : TradeLine) → MatchOption r (NoCode b) (λ x. x ≡ t) → IsCode b → r ≡ Some t
 trade-found b None t h i = absurd (h (month_of b) i.0 i.1)
 trade-found b (Some x) t h i = ap Some h
 
@@ -32,17 +32,17 @@ first_bad b n (Some i) e h = (λ k l. h.3 k (omega arith) l, omega (arith, h.1),
 
 -- ---- the trades that are left from a line on
 
-pub none_left : (ts : List Trade) (i : ℕ) → None ≡ slice_get ts i → drop i ts ≡ []
+pub none_left : (ts : List TradeLine) (i : ℕ) → None ≡ slice_get ts i → drop i ts ≡ []
 none_left ts i e = elim (slice_get_cases ts i).1 [
   | inl p ↦ absurd (none-some p.0 (e ∙ p.2))
   | inr p ↦ drop_all i ts p.0
 ]
 
-pub one_left : (ts : List Trade) (i : ℕ) (t : Trade) → Some t ≡ slice_get ts i → drop i ts ≡ t ∷ drop (i + 1) ts
+pub one_left : (ts : List TradeLine) (i : ℕ) (t : TradeLine) → Some t ≡ slice_get ts i → drop i ts ≡ t ∷ drop (i + 1) ts
 one_left ts i t e =
-    drop_more ts i t (slice_get_within ts i t (sym e)) ∙ ap (λ (x : Trade). x ∷ drop (i + 1) ts) (get_or_from_slice_get ts i t t (sym e))
+    drop_more ts i t (slice_get_within ts i t (sym e)) ∙ ap (λ (x : TradeLine). x ∷ drop (i + 1) ts) (get_or_from_slice_get ts i t t (sym e))
 
-pub fewer_left : (ts : List Trade) (i : ℕ) (t : Trade) → Some t ≡ slice_get ts i → length (drop (i + 1) ts) < length (drop i ts)
+pub fewer_left : (ts : List TradeLine) (i : ℕ) (t : TradeLine) → Some t ≡ slice_get ts i → length (drop (i + 1) ts) < length (drop i ts)
 fewer_left ts i t e = let l = ap length (one_left ts i t e) in omega arith
 
 -- a view has as many trades as its head counts, and no more than a sheet
@@ -70,7 +70,7 @@ accepted bytes ticket v b e s d =
     }
 
 -- the bytes of a sheet are not refused
-module _ (bytes : List ℕ) (day : ℕ) (ts : List Trade) (v : Valid day ts) (e : bytes ≡ sheet_bytes day ts) where
+module _ (bytes : List ℕ) (day : ℕ) (ts : List TradeLine) (v : Valid day ts) (e : bytes ≡ sheet_bytes day ts) where
   is-sheet : Sheet bytes
   is-sheet = subst Sheet (sym e) (written_back day ts v).sheet
 

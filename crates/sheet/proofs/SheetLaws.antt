@@ -8,7 +8,7 @@ use Rattle.std.proofs.ByRecursion.{All-take, All-drop, All-get_or, All-from_get_
 use Rattle.std.proofs.lemmas.Simd.{length-chunk, chunk-drop}
 use Rattle.std.proofs.lemmas.List.{length-append, length-drop, append-nil, take_all, take-append-drop, same_lists}
 use Rattle.std.proofs.lemmas.Option.{slice_get-get_or, slice_get_past}
-use Rattle.sheet.specs.declared.trade.Trade.{Trade}
+use Rattle.sheet.specs.declared.trade.TradeLine.{TradeLine}
 use Rattle.sheet.specs.Codes.{code_bytes, last_month, month_of, IsCode}
 use Rattle.sheet.specs.Sheet.{little, number, sides, terms, sheet_bytes, most_trades, FitsLine, Valid, count_of, day_of, sides_at, terms_at, code_of, trade_from, lines_of, trades_of, Sheet}
 use Rattle.sheet.proofs.CodeLaws.{month-back, is_code}
@@ -37,14 +37,14 @@ in_four b a₀ a₁ a₂ a₃ r₁ r₂ r₃ x₀ x₁ x₂ x₃ p q r s e₀ e�
 -- ---- a line
 
 -- a trade of zeros, where a list needs a default
-abbrev pub blank : Trade
+abbrev pub blank : TradeLine
 blank = record { buyer = 0; seller = 0; month = 0; rate = 0; quantity = 0 }
 
-pub same-trade : (t : Trade) (m r q : ℕ) → m ≡ t.month → r ≡ t.rate → q ≡ t.quantity
+pub same-trade : (t : TradeLine) (m r q : ℕ) → m ≡ t.month → r ≡ t.rate → q ≡ t.quantity
     → record { buyer = t.buyer; seller = t.seller; month = m; rate = r; quantity = q } ≡ t
 same-trade t m r q em er eq = λ i. record { buyer = t.buyer; seller = t.seller; month = em i; rate = er i; quantity = eq i }
 
-pub trade-back : (t : Trade) → FitsLine t → t.month ≤ last_month → trade_from (sides t) (terms t) ≡ t
+pub trade-back : (t : TradeLine) → FitsLine t → t.month ≤ last_month → trade_from (sides t) (terms t) ≡ t
 trade-back t f m =
     same-trade t (month_of (code_bytes t.month)) (number (little 4 t.rate)) (number (little 4 t.quantity))
     (month-back t.month m) (number-little 4 t.rate (omega arith)) (number-little 4 t.quantity (omega arith))
@@ -68,7 +68,7 @@ pub length-lines : (n : ℕ) (b : List ℕ) → length (lines_of n b) ≡ n
 unfolding lines_of
 length-lines n b = length-map-range_with_len (λ i. trade_from (sides_at b i) (terms_at n b i)) 0 n
 
-pub get_or-lines : (n : ℕ) (b : List ℕ) (i : ℕ) (d : Trade) → i < n → get_or (lines_of n b) i d ≡ trade_from (sides_at b i) (terms_at n b i)
+pub get_or-lines : (n : ℕ) (b : List ℕ) (i : ℕ) (d : TradeLine) → i < n → get_or (lines_of n b) i d ≡ trade_from (sides_at b i) (terms_at n b i)
 unfolding lines_of
 get_or-lines n b i d h = get_or-map-range_with_len (λ j. trade_from (sides_at b j) (terms_at n b j)) 0 n i i d h (omega arith)
 
@@ -83,18 +83,18 @@ line-past n b i h = slice_get_past (lines_of n b) i (omega (arith, length-lines 
 -- ---- the bytes of a sheet
 
 -- the rows of sides and of terms, and their lengths
-pub wide-sides : (t : Trade) → length (sides t) ≡ 2
+pub wide-sides : (t : TradeLine) → length (sides t) ≡ 2
 wide-sides t = refl
 
-pub wide-terms : (t : Trade) → length (terms t) ≡ 14
+pub wide-terms : (t : TradeLine) → length (terms t) ≡ 14
 wide-terms t = refl
 
-pub length-sheet : (day : ℕ) (ts : List Trade) → length (sheet_bytes day ts) ≡ 4 + 16 * length ts
+pub length-sheet : (day : ℕ) (ts : List TradeLine) → length (sheet_bytes day ts) ≡ 4 + 16 * length ts
 unfolding sheet_bytes
 length-sheet day ts = simp length-append (omega (arith, length-joined sides 2 wide-sides ts, length-joined terms 14 wide-terms ts))
 
 -- the count, the day and the rows of a sheet, written one behind the other
-pub sheet-put : (day : ℕ) (ts : List Trade) (old p q rows : List ℕ)
+pub sheet-put : (day : ℕ) (ts : List TradeLine) (old p q rows : List ℕ)
     → p ≡ little 2 (length ts) → q ≡ little 2 day → rows ≡ flat_map sides ts ++ flat_map terms ts
     → put_mid 4 ((4 + 16 * length ts) - 4) (put_mid 2 2 (p ++ drop 2 old) q) rows ≡ sheet_bytes day ts ++ drop (4 + 16 * length ts) old
 unfolding sheet_bytes
@@ -106,13 +106,13 @@ sheet-put day ts old p q rows ep eq er =
     (same-three p q rows (little 2 n) (little 2 day) (flat_map sides ts ++ flat_map terms ts) ep eq er))
 
 -- the sides and the terms of a line that was written
-pub sides-at : (day : ℕ) (ts : List Trade) (d : Trade) (i : ℕ) → i < length ts → chunk (4 + 2 * i) 2 (sheet_bytes day ts) ≡ sides (get_or ts i d)
+pub sides-at : (day : ℕ) (ts : List TradeLine) (d : TradeLine) (i : ℕ) → i < length ts → chunk (4 + 2 * i) 2 (sheet_bytes day ts) ≡ sides (get_or ts i d)
 unfolding sheet_bytes
 sides-at day ts d i h =
     chunk-past (little 2 (length ts) ++ little 2 day) (flat_map sides ts ++ flat_map terms ts) 4 (2 * i) 2 refl
     ∙ row-joined sides 2 wide-sides ts d (flat_map terms ts) i h
 
-pub terms-at : (day : ℕ) (ts : List Trade) (d : Trade) (i : ℕ) → i < length ts
+pub terms-at : (day : ℕ) (ts : List TradeLine) (d : TradeLine) (i : ℕ) → i < length ts
     → chunk (4 + 2 * length ts + 14 * i) 14 (sheet_bytes day ts) ≡ terms (get_or ts i d)
 unfolding sheet_bytes
 terms-at day ts d i h =
@@ -125,31 +125,31 @@ terms-at day ts d i h =
     ∙ row-joined terms 14 wide-terms ts d [] i h
 
 -- the count and the day that were written
-pub count_at : (day : ℕ) (ts : List Trade) → length ts ≤ most_trades → count_of (sheet_bytes day ts) ≡ length ts
+pub count_at : (day : ℕ) (ts : List TradeLine) → length ts ≤ most_trades → count_of (sheet_bytes day ts) ≡ length ts
 unfolding sheet_bytes
 count_at day ts h = number-little 2 (length ts) (omega arith)
 
-pub day-at : (day : ℕ) (ts : List Trade) → day < 2 ^ 16 → day_of (sheet_bytes day ts) ≡ day
+pub day-at : (day : ℕ) (ts : List TradeLine) → day < 2 ^ 16 → day_of (sheet_bytes day ts) ≡ day
 unfolding sheet_bytes
 day-at day ts h = number-little 2 day (omega arith)
 
 -- what is written is framed, has a code on each line, and is read as its day and its trades
-pub record Back (day : ℕ) (ts : List Trade) : Type 0 where
+pub record Back (day : ℕ) (ts : List TradeLine) : Type 0 where
   pub sheet : Sheet (sheet_bytes day ts)
   pub day-back : day_of (sheet_bytes day ts) ≡ day
   pub trades-back : trades_of (sheet_bytes day ts) ≡ ts
 
-module _ (day : ℕ) (ts : List Trade) (v : Valid day ts) where
+module _ (day : ℕ) (ts : List TradeLine) (v : Valid day ts) where
   count-is : count_of (sheet_bytes day ts) ≡ length ts
   count-is = count_at day ts v.1.0
 
-  terms-is : (d : Trade) (i : ℕ) → i < length ts → terms_at (count_of (sheet_bytes day ts)) (sheet_bytes day ts) i ≡ terms (get_or ts i d)
+  terms-is : (d : TradeLine) (i : ℕ) → i < length ts → terms_at (count_of (sheet_bytes day ts)) (sheet_bytes day ts) i ≡ terms (get_or ts i d)
   terms-is d i h = ap (λ (n : ℕ). chunk (4 + 2 * n + 14 * i) 14 (sheet_bytes day ts)) count-is ∙ terms-at day ts d i h
 
-  code_is : (d : Trade) (i : ℕ) → i < length ts → code_of (sheet_bytes day ts) i ≡ code_bytes (get_or ts i d).month
+  code_is : (d : TradeLine) (i : ℕ) → i < length ts → code_of (sheet_bytes day ts) i ≡ code_bytes (get_or ts i d).month
   code_is d i h = ap (take 6) (terms-is d i h)
 
-  trade-is : (d : Trade) (i : ℕ) → i < length ts → trade_from (sides_at (sheet_bytes day ts) i) (terms_at (count_of (sheet_bytes day ts)) (sheet_bytes day ts) i) ≡ get_or ts i d
+  trade-is : (d : TradeLine) (i : ℕ) → i < length ts → trade_from (sides_at (sheet_bytes day ts) i) (terms_at (count_of (sheet_bytes day ts)) (sheet_bytes day ts) i) ≡ get_or ts i d
   trade-is d i h =
       let t = get_or ts i d in
       ap (λ (x : List ℕ). trade_from x (terms_at (count_of (sheet_bytes day ts)) (sheet_bytes day ts) i)) (sides-at day ts d i h)
@@ -226,7 +226,7 @@ module _ (b : List ℕ) (bytes : Bytes b) (s : Sheet b) where
       All-get_or (λ x. x < 256) (sides_at b i) j 0 (omega arith) (bytes-chunk (4 + 2 * i) 2 b bytes)
 
   -- what holds of the trade of each line
-  each_line : (P : Trade → Type 0) → ((i : ℕ) → i < n → P (trade_from (sides_at b i) (terms_at n b i))) → AllByRecursion P (trades_of b)
+  each_line : (P : TradeLine → Type 0) → ((i : ℕ) → i < n → P (trade_from (sides_at b i) (terms_at n b i))) → AllByRecursion P (trades_of b)
   each_line P h =
       let d = blank in
       All-from_get_or P (trades_of b) d (λ i l. let k : i < n = omega (arith, length-trades) in subst P (sym (get_or-lines n b i d k)) (h i k))

@@ -2,7 +2,7 @@
 use Rattle.std.specs.Prelude.{◌≡◌, ℕ, ◌+◌, ◌*◌, ◌^◌, ◌<◌, ◌≤◌, List, [], ◌∷◌, ◌++◌, map, length, take, Some, None, Option, ◌≢◌, slice_index}
 use Rattle.std.specs.Simd.Lanes.{number_l, digits_l, chunk}
 use Rattle.std.specs.List.{range_with_len, flat_map, AllByRecursion}
-use Rattle.sheet.specs.declared.trade.Trade.{Trade}
+use Rattle.sheet.specs.declared.trade.TradeLine.{TradeLine}
 use Rattle.sheet.specs.declared.trade.SheetFault.{SheetFault}
 use Rattle.sheet.specs.declared.trade.SheetFault.TheVariants.{Length, Count, Day, Code}
 use Rattle.sheet.specs.declared.trade.WriteFault.{WriteFault}
@@ -18,15 +18,15 @@ abbrev pub number : List ℕ → ℕ
 number bytes = number_l 256 bytes
 
 -- the two sides of a trade, in rate
-abbrev pub sides : Trade → List ℕ
+abbrev pub sides : TradeLine → List ℕ
 sides t = t.buyer ∷ t.seller ∷ []
 
 -- the terms of a trade: the code of its month, its rate and its quantity
-abbrev pub terms : Trade → List ℕ
+abbrev pub terms : TradeLine → List ℕ
 terms t = code_bytes t.month ++ (little 4 t.rate ++ little 4 t.quantity)
 
 -- the bytes of a sheet: the count, the day, the sides of each trade, then the terms of each
-unfoldable pub sheet_bytes : ℕ → List Trade → List ℕ
+unfoldable pub sheet_bytes : ℕ → List TradeLine → List ℕ
 sheet_bytes day trades = little 2 (length trades) ++ (little 2 day ++ (flat_map sides trades ++ flat_map terms trades))
 
 -- the most trades of a sheet
@@ -34,15 +34,15 @@ abbrev pub most_trades : ℕ
 most_trades = 256
 
 -- the trades make a sheet: few enough, and each in a month that has a code
-abbrev pub Listable : List Trade → Type 0
+abbrev pub Listable : List TradeLine → Type 0
 Listable trades = (length trades ≤ most_trades) × AllByRecursion (λ t. t.month ≤ last_month) trades
 
 -- each field of a trade fits its bytes
-abbrev pub FitsLine : Trade → Type 0
+abbrev pub FitsLine : TradeLine → Type 0
 FitsLine t = (t.buyer < 256) × (t.seller < 256) × (t.rate < 2 ^ 32) × (t.quantity < 2 ^ 32)
 
 -- a sheet: its day fits two bytes, its trades make a sheet, and each fits its line
-abbrev pub Valid : ℕ → List Trade → Type 0
+abbrev pub Valid : ℕ → List TradeLine → Type 0
 Valid day trades = (day < 2 ^ 16) × Listable trades × AllByRecursion FitsLine trades
 
 -- what the bytes of a sheet say
@@ -64,7 +64,7 @@ abbrev pub code_of : List ℕ → ℕ → List ℕ
 code_of bytes line = take 6 (terms_at (count_of bytes) bytes line)
 
 -- the trade that its sides and its terms say
-abbrev pub trade_from : List ℕ → List ℕ → Trade
+abbrev pub trade_from : List ℕ → List ℕ → TradeLine
 trade_from s t = record {
   buyer = slice_index s 0;
   seller = slice_index s 1;
@@ -74,11 +74,11 @@ trade_from s t = record {
 }
 
 -- the trades of so many lines
-unfoldable pub lines_of : ℕ → List ℕ → List Trade
+unfoldable pub lines_of : ℕ → List ℕ → List TradeLine
 lines_of count bytes = map (λ line. trade_from (sides_at bytes line) (terms_at count bytes line)) (range_with_len 0 count)
 
 -- the trades of a sheet
-abbrev pub trades_of : List ℕ → List Trade
+abbrev pub trades_of : List ℕ → List TradeLine
 trades_of bytes = lines_of (count_of bytes) bytes
 
 -- the count is in range, and the length is that of so many trades
@@ -111,6 +111,6 @@ fault_line Day = 0
 fault_line (Code line) = line
 
 -- why trades are not written into an array of so many bytes: it is short; else they make no sheet
-abbrev pub Unwritten : ℕ → List Trade → WriteFault → Type 0
+abbrev pub Unwritten : ℕ → List TradeLine → WriteFault → Type 0
 Unwritten room trades Short = room < 4 + 16 * length trades
 Unwritten room trades BadSheet = (4 + 16 * length trades ≤ room) × (Listable trades → ⊥)

@@ -1,7 +1,7 @@
 -- What a view of a sheet says, and when bytes are accepted. Assumes nothing.
 use Rattle.std.specs.Prelude.{◌≡◌, ℕ, List, length, Option, Result, MatchResult, ◌≢◌}
 use Rattle.sheet.specs.declared.trade.SheetFault.{SheetFault}
-use Rattle.sheet.specs.declared.trade.Trade.{Trade}
+use Rattle.sheet.specs.declared.trade.TradeLine.{TradeLine}
 use Rattle.sheet.specs.declared.view.SheetView.{SheetView}
 use Rattle.sheet.specs.Sheet.{sheet_bytes, Valid, Sheet, count_of, day_of, lines_of, OnDay, Refused}
 
@@ -15,7 +15,7 @@ view_day v = v.frame.day
 abbrev pub view_count : SheetView → ℕ
 view_count v = v.frame.count
 
-abbrev pub view_trades : SheetView → List Trade
+abbrev pub view_trades : SheetView → List TradeLine
 view_trades v = lines_of (view_count v) (view_bytes v)
 
 -- the view is of a sheet, under the head that the bytes say
@@ -33,7 +33,7 @@ pub record Accepted (bytes : List ℕ) (ticket : Option ℕ) (v : SheetView) : T
 
 -- bytes are those of no sheet, on the ticket's day if there is a ticket
 abbrev pub NoSheet : List ℕ → Option ℕ → Type 0
-NoSheet bytes ticket = (day : ℕ) (trades : List Trade) → Valid day trades → OnDay ticket day → bytes ≢ sheet_bytes day trades
+NoSheet bytes ticket = (day : ℕ) (trades : List TradeLine) → Valid day trades → OnDay ticket day → bytes ≢ sheet_bytes day trades
 
 -- what reading answers: a view of the sheet, or the first cause, and then the bytes are those of no sheet
 abbrev pub Outcome : List ℕ → Option ℕ → Result SheetView SheetFault → Type 0
@@ -42,5 +42,5 @@ Outcome bytes ticket r = MatchResult r (Accepted bytes ticket) (λ f. Refused by
 -- the bytes of a sheet are read as its day and its trades
 abbrev pub ReadsBack : List ℕ → Option ℕ → Result SheetView SheetFault → Type 0
 ReadsBack bytes ticket r =
-    (day : ℕ) (trades : List Trade) → Valid day trades → OnDay ticket day → bytes ≡ sheet_bytes day trades
+    (day : ℕ) (trades : List TradeLine) → Valid day trades → OnDay ticket day → bytes ≡ sheet_bytes day trades
     → MatchResult r (λ v. (view_day v ≡ day) × (view_trades v ≡ trades)) (λ _. ⊥)

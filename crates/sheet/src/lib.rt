@@ -12,6 +12,6 @@ mod writing;
 
 pub use code::ContractCode;
 pub use letters::{letter, month_of_letter};
-pub use trade::{MOST_TRADES, SheetFault, Trade, WriteFault};
+pub use trade::{MOST_TRADES, SheetFault, TradeLine, WriteFault};
 pub use view::{SheetView, Trades, read, read_for};
 pub use writing::write;

@@ -1,9 +1,8 @@
 // The lines of a trade sheet, and why one is refused.
 ghost use Rattle.std.specs.Prelude.{◌≡◌, Some};
-ghost use Rattle.sheet.specs.Refusals.{fault_refusal, write_refusal, fault_message, write_message};
+ghost use Rattle.sheet.specs.Faults.{fault_message, write_message};
 ghost use Rattle.sheet.specs.Sheet.{fault_line};
 
-use refusal::Refusal;
 use std::error::Error;
 use std::fmt;
 
@@ -12,7 +11,7 @@ pub const MOST_TRADES: u16 = 256;
 
 // A trade as the sheet has it, with the sides in rate.
 #[derive(Clone, Copy, PartialEq, Eq, Debug)]
-pub struct Trade {
+pub struct TradeLine {
     pub buyer: u8,
     pub seller: u8,
     pub month: u32,
@@ -58,15 +57,6 @@ impl fmt::Display for SheetFault {
 
 impl Error for SheetFault {}
 
-// Every fault of a sheet is one refusal.
-impl From<SheetFault> for Refusal {
-    ghost from_gives = { λ fault refusal. refusal ≡ fault_refusal fault };
-
-    fn from(_fault: SheetFault) -> Refusal {
-        Refusal::BadSheet
-    }
-}
-
 // Why a sheet is not written: the array is short, or the trades make no sheet.
 #[derive(Clone, Copy, PartialEq, Eq, Debug)]
 pub enum WriteFault {
@@ -87,14 +77,3 @@ impl fmt::Display for WriteFault {
 }
 
 impl Error for WriteFault {}
-
-impl From<WriteFault> for Refusal {
-    ghost from_gives = { λ fault refusal. refusal ≡ write_refusal fault };
-
-    fn from(fault: WriteFault) -> Refusal {
-        match fault {
-            WriteFault::Short => Refusal::ArrayShort,
-            WriteFault::BadSheet => Refusal::BadSheet,
-        }
-    }
-}

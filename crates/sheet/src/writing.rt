@@ -6,10 +6,10 @@ ghost use Rattle.sheet.specs.Codes.{code_bytes, last_month};
 ghost use Rattle.sheet.specs.Sheet.{little, sides, terms, sheet_bytes, FitsLine, Listable, Valid, Unwritten};
 
 use crate::code::ContractCode;
-use crate::trade::{MOST_TRADES, Trade, WriteFault};
+use crate::trade::{MOST_TRADES, TradeLine, WriteFault};
 
 // Writes the sheet of these trades, and answers its length.
-pub fn write(day: u16, trades: &[Trade], out: &mut [u8]) -> Result<usize, WriteFault>
+pub fn write(day: u16, trades: &[TradeLine], out: &mut [u8]) -> Result<usize, WriteFault>
     ensures { MatchResult result
         (λ n. (n ≡ 4 + 16 * length trades.now) × Valid day trades.now × (out.new ≡ sheet_bytes day trades.now ++ drop n out.old))
         (λ f. Unwritten (length out.old) trades.now f × (out.new ≡ out.old)) }
@@ -36,13 +36,13 @@ fn is_short(room: usize, count: usize) -> bool
 // The trades of a sheet: few enough, and each in a month that has a code.
 #[derive(Clone, Copy)]
 struct ListedTrades<'a> {
-    trades: &'a [Trade],
+    trades: &'a [TradeLine],
     ghost listable: { Listable trades.now } by { Prim.hlevel props },
 }
 
 impl<'a> ListedTrades<'a> {
     // The trades, if they make a sheet.
-    fn new(trades: &'a [Trade]) -> Option<ListedTrades<'a>>
+    fn new(trades: &'a [TradeLine]) -> Option<ListedTrades<'a>>
         ensures value { MatchOption result (¬ Listable trades.now) (λ t. t.trades.now ≡ trades.now) }
         ensures fits { IfSome result (λ _. AllByRecursion FitsLine trades.now) }
     {
@@ -74,7 +74,7 @@ impl<'a> ListedTrades<'a> {
 }
 
 // Whether the month of each trade has a code.
-fn are_coded(trades: &[Trade]) -> bool
+fn are_coded(trades: &[TradeLine]) -> bool
     ensures coded { Decides result (AllByRecursion (λ t. t.month ≤ last_month) trades.now) }
     ensures fits { result ≡ true → AllByRecursion FitsLine trades.now }
 {
@@ -82,7 +82,7 @@ fn are_coded(trades: &[Trade]) -> bool
 }
 
 // Whether the month of a trade has a code. Its other fields fit their bytes by their types.
-fn is_coded(trade: Trade) -> bool
+fn is_coded(trade: TradeLine) -> bool
     ensures coded { Decides result (trade.month ≤ last_month) }
     ensures fits { FitsLine trade }
 {

@@ -8,7 +8,7 @@ ghost use Rattle.sheet.specs.Views.{view_day, view_count, view_trades, Sound};
 use super::SheetView;
 use crate::code::ContractCode;
 use crate::numbers::array_of;
-use crate::trade::Trade;
+use crate::trade::TradeLine;
 
 impl SheetView<'_> {
     // The session day.
@@ -27,7 +27,7 @@ impl SheetView<'_> {
     }
 
     // The trade of a line, counted from 0.
-    pub fn trade(&self, line: usize) -> Option<Trade>
+    pub fn trade(&self, line: usize) -> Option<TradeLine>
         ensures past { view_count self.now ≤ line → result ≡ None }
         ensures value { result ≡ slice_get (view_trades self.now) line }
     {
@@ -39,12 +39,12 @@ impl SheetView<'_> {
 }
 
 // The trade that its sides and its terms say, if the code is one.
-fn trade_from(sides: [u8; 2], terms: [u8; 14]) -> Option<Trade>
+fn trade_from(sides: [u8; 2], terms: [u8; 14]) -> Option<TradeLine>
     ensures { MatchOption result (NoCode (take 6 terms)) (λ t. t ≡ trade_from sides terms) }
 {
     let code = ContractCode::from_bytes(&terms[0..6])?;
     let [buyer, seller] = sides;
-    Some(Trade {
+    Some(TradeLine {
         buyer,
         seller,
         month: code.month(),

@@ -5,7 +5,7 @@ ghost use Rattle.sheet.specs.Views.{view_trades};
 ghost use Rattle.sheet.specs.Lines.{trades_left};
 
 use super::SheetView;
-use crate::trade::Trade;
+use crate::trade::TradeLine;
 
 // The trades of a sheet from a line on.
 #[derive(Clone, Debug, Drop)]
@@ -28,14 +28,14 @@ impl<'a> SheetView<'a> {
 }
 
 impl Iterator for Trades<'_> {
-    type Item = Trade;
+    type Item = TradeLine;
 
     ghost next_gives = { YieldsFirst trades_left };
 
     ghost remaining = { item_count trades_left };
 
     #[tactic(auto, using(crate::proofs::ReadLaws::none_left, crate::proofs::ReadLaws::one_left, crate::proofs::ReadLaws::fewer_left))]
-    fn next(&mut self) -> Option<Trade> {
+    fn next(&mut self) -> Option<TradeLine> {
         let trade = self.view.trade(self.line)?;
         self.line += 1;
         Some(trade)

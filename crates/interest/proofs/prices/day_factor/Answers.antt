@@ -7,6 +7,6 @@ pub returns : goal.returns
 unfolding day_factor
 returns c =
     let d = c.args.rate in
-    let h = c.if-rate-gt-DI_MOST.false in
+    let h = c.if-rate-gt-MAX_DI_RATE.false in
     let e : c.to_eight_decimals.result ≡ day_factor d = cc c.root.ensures.value in
     record { within = h; value = e; least = omega (arith, e, day-factor-least d); most = omega (arith, e, day-factor-most d h) }
