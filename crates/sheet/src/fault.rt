@@ -1,23 +1,10 @@
-// The lines of a trade sheet, and why one is refused.
+// Why a trade sheet is not read, or not written.
 ghost use Rattle.std.specs.Prelude.{◌≡◌, Some};
 ghost use Rattle.sheet.specs.Faults.{fault_message, write_message};
 ghost use Rattle.sheet.specs.Sheet.{fault_line};
 
 use std::error::Error;
 use std::fmt;
-
-// The most trades of a sheet.
-pub const MOST_TRADES: u16 = 256;
-
-// A trade as the sheet has it, with the sides in rate.
-#[derive(Clone, Copy, PartialEq, Eq, Debug)]
-pub struct TradeLine {
-    pub buyer: u8,
-    pub seller: u8,
-    pub month: u32,
-    pub rate: u32,
-    pub quantity: u32,
-}
 
 // Why bytes are no trade sheet: their length, the count of trades, the session day, or the code of a line.
 #[derive(Clone, Copy, PartialEq, Eq, Debug)]
