@@ -5,7 +5,7 @@ ghost use Rattle.pricing.specs.Pricing.{Answer, cause_refusal, message, turned, 
 use calendar::kind::Calendar;
 use calendar::span::{count_reserve_days, expiry};
 use dates::month_of;
-use interest::{DEALT_MOST, Unpriceable, on_tick, trade_price};
+use interest::{MAX_DEALT_RATE, Unpriceable, on_tick, trade_price};
 use refusal::Refusal;
 use sheet::Trade;
 use std::error::Error;
@@ -104,7 +104,7 @@ pub fn price_trade<C: Calendar>(
     if expiry <= session {
         return Err(Cause::Expired);
     }
-    if trade.rate > DEALT_MOST {
+    if trade.rate > MAX_DEALT_RATE {
         return Err(Cause::RateTooHigh);
     }
     let month = month_of(session).unwrap();
