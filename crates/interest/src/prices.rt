@@ -9,17 +9,9 @@ use crate::reciprocals::Divisor;
 use crate::roots::Target;
 use std::fmt;
 
-<<<<<<< HEAD
-// The greatest DI rate, in millionths of a percent.
-pub const MAX_DI_RATE: u32 = 99_999_999;
-// The greatest dealt rate, in thousandths of a percent.
-pub const MAX_DEALT_RATE: u32 = 99_999;
-// The most reserve days to an expiry.
-=======
 /// The greatest dealt rate, in thousandths of a percent.
 pub const MAX_DEALT_RATE: u32 = 99_999;
 /// The most reserve days to an expiry.
->>>>>>> abcb4a69dc1152537e62d2201f107459b6f631c2
 pub const MAX_RESERVE_DAYS: u32 = 2_520;
 
 /// Why a dealt rate has no price.
@@ -43,31 +35,6 @@ impl fmt::Display for Unpriceable {
 
 impl std::error::Error for Unpriceable {}
 
-<<<<<<< HEAD
-// A factor of nine decimals, rounded to eight.
-// Kept: one rounding over a const parameter was tried; this and to_centavos are still needed above it, for their bounds.
-fn to_eight_decimals(factor: u64) -> u32
-    requires { factor ≤ 2000000000 }
-    ensures { result ≡ (factor + 5) / 10 }
-{
-    ((factor + 5) / 10) as u32
-}
-
-// The day factor of a DI rate, in units of 10^-8, or nothing for a rate of 100 % and over.
-pub fn day_factor(rate: u32) -> Option<u32>
-    ensures { MatchOption result (99999999 < rate) (λ g. DayFactor rate g) }
-{
-    if rate > MAX_DI_RATE {
-        return None;
-    }
-    let target = Target {
-        value: ONE + 10 * rate as u64,
-    };
-    Some(to_eight_decimals(target.root()))
-}
-
-=======
->>>>>>> abcb4a69dc1152537e62d2201f107459b6f631c2
 // A worth in units of 10^-9 of a point, rounded to hundredths of a point.
 // Kept: one rounding over a const parameter was tried; this and to_eight_decimals are still needed above it, for their bounds.
 fn to_centavos(worth: u64) -> u32
