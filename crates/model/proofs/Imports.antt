@@ -6,7 +6,7 @@ use Rattle.refusal.specs.declared.Refusal.{Refusal}
 use Rattle.refusal.specs.Refusals.{first_row}
 use Rattle.interest.specs.Price.{trade_price}
 use Rattle.pricing.specs.Pricing.{days_to}
-use Rattle.sheet.specs.declared.trade.TradeLine.{TradeLine}
+use Rattle.sheet.specs.declared.trade_line.TradeLine.{TradeLine}
 use Rattle.sheet.specs.Codes.{place_in}
 use Rattle.model.specs.History.{History, Traded}
 use Rattle.model.specs.Imports.{after_lines, AllAccepted, Imported, ImportsHold}

@@ -7,11 +7,11 @@ use Rattle.std.proofs.lemmas.Bool.{leb-true, le-leb, lt-ltb, le-ltb, false_from_
 use Rattle.std.proofs.lemmas.Bool.Decides.{nat_tests, Decides-eqb, Decides-and, Decides-like, Decides-by_and}
 use Rattle.std.proofs.lemmas.Slice.Eq.{compares_Decides}
 use Rattle.refusal.specs.Refusals.{first_row}
-use Rattle.sheet.specs.declared.trade.SheetFault.{SheetFault}
-use Rattle.sheet.specs.declared.trade.SheetFault.TheVariants.{Length, Count, Day, Code}
-use Rattle.sheet.specs.declared.trade.TradeLine.{TradeLine}
-use Rattle.sheet.specs.declared.trade.WriteFault.{WriteFault}
-use Rattle.sheet.specs.declared.trade.WriteFault.TheVariants as faults
+use Rattle.sheet.specs.declared.fault.SheetFault.{SheetFault}
+use Rattle.sheet.specs.declared.fault.SheetFault.TheVariants.{Length, Count, Day, Code}
+use Rattle.sheet.specs.declared.trade_line.TradeLine.{TradeLine}
+use Rattle.sheet.specs.declared.fault.WriteFault.{WriteFault}
+use Rattle.sheet.specs.declared.fault.WriteFault.TheVariants as faults
 use Rattle.sheet.specs.Codes.{last_month, month_of, code_bytes, place_in, IsCode}
 use Rattle.sheet.specs.Refusals.{write_refusal}
 use Rattle.sheet.specs.Sheet.{most_trades, count_of, day_of, code_of, Sheet, OnDay, Refused, Listable, Unwritten}

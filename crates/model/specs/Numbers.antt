@@ -2,7 +2,7 @@
 use Rattle.std.specs.Prelude.{◌≡◌, ℕ, List, [], ◌∷◌, map}
 use Rattle.amounts.specs.declared.trades.Trade as books
 use Rattle.refusal.specs.Refusals.{Row, refusal_number}
-use Rattle.sheet.specs.declared.trade.TradeLine.{TradeLine}
+use Rattle.sheet.specs.declared.trade_line.TradeLine.{TradeLine}
 use Rattle.model.specs.declared.accounts.Account.{Account}
 use Rattle.model.specs.History.{History}
 use Rattle.model.specs.Rows.{SessionReference, enter_rows, list_rows, publish_rows, arbitrate_rows, open_rows, trade_rows, mark_rows, close_rows, pay_rows, position_rows, balance_rows}

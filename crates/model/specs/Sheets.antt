@@ -6,9 +6,9 @@ use Rattle.interest.specs.Price.{trade_price}
 use Rattle.pricing.specs.Pricing.{days_to}
 use Rattle.refusal.specs.declared.Refusal.TheVariants.{NoSuchIndex, ArrayShort, BadSheet}
 use Rattle.refusal.specs.Refusals.{Row, first_row}
-use Rattle.sheet.specs.declared.trade.SheetFault.{SheetFault}
-use Rattle.sheet.specs.declared.trade.TradeLine.{TradeLine}
-use Rattle.sheet.specs.declared.trade.WriteFault.{WriteFault}
+use Rattle.sheet.specs.declared.fault.SheetFault.{SheetFault}
+use Rattle.sheet.specs.declared.trade_line.TradeLine.{TradeLine}
+use Rattle.sheet.specs.declared.fault.WriteFault.{WriteFault}
 use Rattle.sheet.specs.Codes.{last_month, month_of, code_bytes, place_in}
 use Rattle.sheet.specs.Refusals.{fault_refusal, write_refusal}
 use Rattle.sheet.specs.Sheet.{most_trades, count_of, day_of, code_of, Sheet, OnDay, Refused, Listable, Unwritten}
