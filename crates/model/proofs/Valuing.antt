@@ -3,13 +3,12 @@ use Rattle.std.proofs.Common.{◌≡◌, ℕ, ◌<◌, ◌≤◌, Bool, true, fa
 use borrow.Author.Differences.{ints}
 use Rattle.std.specs.List.{AllByRecursion}
 use Rattle.std.proofs.ByRecursion.{All-weaker}
-use Rattle.std.proofs.lemmas.List.{length-append}
 use Rattle.std.proofs.lemmas.Bool.{ltb-true, leb-true}
 use Rattle.calendar.specs.Spans.{reserve_days}
 use Rattle.correction.specs.Gaps.{first_unrated}
 use Rattle.interest.specs.Correction.{corrected}
 use Rattle.model.specs.World.{World}
-use Rattle.model.specs.History.{History, Event, Amounts, Closed, listed, list_of}
+use Rattle.model.specs.History.{History, Event, Amounts, Closed, month_listed}
 use Rattle.model.specs.Observed.{months_of, is_listed, expiry_at, rate_on, session_day, trades_of, settlement_price}
 use Rattle.model.specs.Sessions.{Session, sessions_of, up_to, has_reached, gap_to, oldest_day}
 use Rattle.model.specs.Positions.{has_ended, corrected_to}
@@ -20,7 +19,8 @@ use Rattle.model.proofs.Cells.{cells}
 use Rattle.model.proofs.Ended.{ended}
 use Rattle.model.proofs.Expiring.{months-stay}
 use Rattle.model.proofs.Falling.{Falling, unreached}
-use Rattle.model.proofs.Order.{falling, open-later}
+use Rattle.model.proofs.Gathering.{length-with_last}
+use Rattle.model.proofs.SessionOrder.{falling, open-later}
 use Rattle.model.proofs.Rated.{Kept, rate-stays, factors-stay, rated-stay}
 use Rattle.model.proofs.Telescope.{NearFrom, Adjusted, Ruled, all-kept, near}
 
@@ -93,7 +93,7 @@ right-close w h c l a m expiry is =
 before-event : (w : World) (h : History) (e : Event) (m expiry : ℕ) → (m < length (months_of (e ∷ h)) → expiry_at w (e ∷ h) m ≡ expiry)
     → m < length (months_of h) → expiry_at w h m ≡ expiry
 before-event w h e m expiry is b =
-    sym (months-stay w h e m b) ∙ is (let n = length-append (months_of h) (list_of (listed e)) in omega arith)
+    sym (months-stay w h e m b) ∙ is (let n = length-with_last (months_of h) (month_listed e) in omega arith)
 
 pub all_right : (w : World) (h : History) → Lawful w h → (a m expiry : ℕ) → (m < length (months_of h) → expiry_at w h m ≡ expiry)
     → AllRightly w a m expiry (rate_on w h) (sessions_of w h)
@@ -111,4 +111,4 @@ near-value w h l a m =
     near-upto w a m (expiry_at w h m) (rate_on w h) 0 (sessions_of w h) (falling w h l) (all_right w h l a m (expiry_at w h m) (λ _. refl))
 
 pub always-valued : AlwaysValued
-always-valued w h l = record { near = λ a m b. near-value w h l a m; over = ended w h l }
+always-valued w h l = record { within_tolerance = λ a m b. near-value w h l a m; nothing_after = ended w h l }
