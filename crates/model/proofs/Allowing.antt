@@ -55,7 +55,7 @@ day-there number p None h = absurd (true≢false h)
 day-there number p (Some d) h = (d, refl)
 
 pub record Listing (w : World) (h : History) (n expiry : ℕ) : Type 0 where
-  pub is : expiry_of w.kinds n ≡ Some expiry
+  pub first : expiry_of w.kinds n ≡ Some expiry
   pub after-start : w.start < expiry
   pub after-latest : session_day h < expiry
 
@@ -68,7 +68,7 @@ listing w h n l =
     by None e p = absurd (true≢false p)
     by (Some x) e p =
         let q = or_parts (leb x w.start) (leb x (session_day h)) p in
-        (x, record { is = e; after-start = leb-false x w.start q.0; after-latest = leb-false x (session_day h) q.1 })
+        (x, record { first = e; after-start = leb-false x w.start q.0; after-latest = leb-false x (session_day h) q.1 })
 
 pub entering : (w : World) (h : History) (x : Account) → Accepts w h (Entered x) → length (accounts_of h) < 32
 entering w h x l = leb-false 32 (length (accounts_of h)) (none-hold (enter_rows h x) l).0

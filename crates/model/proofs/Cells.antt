@@ -1,9 +1,9 @@
 -- What a close writes is what the rules give, for every account and month, in the book or not.
-use Rattle.std.proofs.Common.{◌≡◌, ℕ, ◌<◌, ◌⊎◌, Bool, true, false, cond, ◌&&◌, List, [], ◌∷◌, length, ℤ, pos, ◌-ℤ◌, sym, refl, ap, ◌∙◌, inl, inr, arith}
+use Rattle.std.proofs.Common.{◌≡◌, ℕ, zero, suc, ◌+◌, ◌<◌, ◌≤◌, ◌+ℤ◌, ◌⊎◌, Bool, true, false, cond, ◌&&◌, List, [], ◌∷◌, length, ℤ, pos, ◌-ℤ◌, sym, refl, ap, ◌∙◌, inl, inr, arith}
 use mathlib.Core.Path.{fun_ext}
 use lib.IntN.{zero-*ℤ}
 use borrow.Author.Differences.{ints}
-use Rattle.std.specs.List.{AllByRecursion}
+use Rattle.std.specs.List.{AllByRecursion, range_with_len}
 use Rattle.std.proofs.ByRecursion.{All-weaker}
 use Rattle.std.proofs.lemmas.Bool.{cond_both, cases_lt, lt-ltb, ltb-true}
 use Rattle.std.proofs.lemmas.Bool.Decides.{nat_tests}
@@ -17,9 +17,9 @@ use Rattle.model.specs.World.{World}
 use Rattle.model.specs.History.{History, Amounts, Closed}
 use Rattle.model.specs.Observed.{accounts_of, months_of, is_account, is_listed, rate_on, session_day, trades_of, settlement_price}
 use Rattle.model.specs.Sessions.{Session, sessions_of}
-use Rattle.model.specs.Positions.{has_ended, contracts_in, carried_of, corrected_to, adjustment_at}
+use Rattle.model.specs.Positions.{has_ended, contracts_in, carried_of, corrected_to, adjustment_at, written_for}
 use Rattle.model.specs.Lawful.{Lawful}
-use Rattle.model.specs.Closes.{in_book}
+use Rattle.model.specs.Closes.{in_book, amounts_at_close}
 use Rattle.model.proofs.Dealt.{Fits, session-fits, closed-fit}
 
 pub lots-outside : (side : Side) (n k a m : ℕ) (t : Trade) → party_of side t < n → t.month < k → ((a < n) × (m < k) → ⊥) → lots_of side a m t ≡ 0
@@ -109,3 +109,20 @@ same-amounts x y adjustments day_trades =
     let same = fun_ext (λ a. fun_ext (adjustments a)) in
     let same_day = fun_ext (λ a. fun_ext (day_trades a)) in
     λ i. record { adjustments = same i; day_trades = same_day i }
+
+-- ---- the listed months
+
+total-none-from : (f : ℕ → ℤ) (n i : ℕ) → ((m : ℕ) → i ≤ m → f m ≡ pos 0) → total f (range_with_len i n) ≡ pos 0
+total-none-from f zero i none = refl
+total-none-from f (suc n) i none = let here = none i (omega arith) in let rest = total-none-from f n (i + 1) (λ m later. none m (omega arith)) in omega (arith, ints, here, rest)
+
+-- indices past the last add nothing
+total-first : (f : ℕ → ℤ) (k n i : ℕ) → k ≤ n → ((m : ℕ) → i + k ≤ m → f m ≡ pos 0) → total f (range_with_len i n) ≡ total f (range_with_len i k)
+total-first f zero n i few none = total-none-from f n i (λ m later. none m (omega arith))
+total-first f (suc k) zero i few none = absurd (omega arith)
+total-first f (suc k) (suc n) i few none = ap (λ z. f i +ℤ z) (total-first f k n (i + 1) (omega arith) (λ m later. none m (omega arith)))
+
+pub listed-written : (w : World) (h : History) (a : ℕ) → length (months_of h) ≤ 16
+    → written_for a (amounts_at_close w h) ≡ total ((amounts_at_close w h).adjustments a) (range_with_len 0 (length (months_of h)))
+listed-written w h a few =
+    total-first ((amounts_at_close w h).adjustments a) (length (months_of h)) 16 0 few (λ m past. outside-book h (adjustment_at w h) a m (λ b. omega (arith, b.1)))

@@ -76,15 +76,15 @@ newest-since : {X : Type 0} (tells : Event → Option X) (kind : Event → Bool)
 newest-since tells kind [] x n = n
 newest-since {X} tells kind (e ∷ h) x n = by (kind e) n (newest-since tells kind h x)
   where
-    told : (o : Option X) → or_else o (newest tells (since kind h)) ≡ Some x → (newest tells (since kind h) ≡ Some x → newest tells h ≡ Some x)
+    later : (o : Option X) → or_else o (newest tells (since kind h)) ≡ Some x → (newest tells (since kind h) ≡ Some x → newest tells h ≡ Some x)
         → or_else o (newest tells h) ≡ Some x
-    told None n ih = ih n
-    told (Some y) n ih = n
+    later None n ih = ih n
+    later (Some y) n ih = n
 
     by : (b : Bool) → newest tells (cond b [] (e ∷ since kind h)) ≡ Some x
         → (newest tells (since kind h) ≡ Some x → newest tells h ≡ Some x) → or_else (tells e) (newest tells h) ≡ Some x
     by true n ih = absurd cc
-    by false n ih = told (tells e) n ih
+    by false n ih = later (tells e) n ih
 
 -- a list of one at most, of which the newest is known
 only : {X : Type 0} (tells : Event → Option X) (h : History) (x : X) → length (gather tells h) ≤ 1 → newest tells h ≡ Some x → gather tells h ≡ x ∷ []

@@ -40,13 +40,13 @@ expiry-first kinds n e is = by (leb n 1199) refl is
 
 -- the month n has an expiry, which is still to come or was opened
 record Expires (w : World) (latest : Option ℕ) (days : List ℕ) (n : ℕ) : Type 0 where
-  is : expiry_of w.kinds n ≡ Some (expiry_day w.kinds n)
+  first : expiry_of w.kinds n ≡ Some (expiry_day w.kinds n)
   met : (next_from w.start latest ≤ expiry_day w.kinds n) ⊎ (list_any (eqb (expiry_day w.kinds n)) days ≡ true)
 
 -- the next session is before the expiry or is it
 step : (w : World) (latest : Option ℕ) (days : List ℕ) (d to : ℕ) → First w.kinds (next_from w.start latest) to (Some d)
     → (n : ℕ) → Expires w latest days n → Expires w (Some d) (days ++ d ∷ []) n
-step w latest days d to f n x = record { is = x.is; met = by x.met }
+step w latest days d to f n x = record { first = x.first; met = by x.met }
   where
     more : list_any (eqb (expiry_day w.kinds n)) (days ++ d ∷ []) ≡ (list_any (eqb (expiry_day w.kinds n)) days || eqb (expiry_day w.kinds n) d)
     more = or_push (list_any (eqb (expiry_day w.kinds n))) (eqb (expiry_day w.kinds n)) refl (λ _ _. refl) days d
@@ -58,7 +58,7 @@ step w latest days d to f n x = record { is = x.is; met = by x.met }
         elim (cases_order (expiry_day w.kinds n) d) [
           | inl e ↦ inr (more ∙ or_right (list_any (eqb (expiry_day w.kinds n)) days) (eqb (expiry_day w.kinds n) d) (eq-eqb (expiry_day w.kinds n) d e))
           | inr (inl l) ↦
-              absurd (true≢false (sym (expiry-first w.kinds n (expiry_day w.kinds n) x.is).1.2 ∙ f.3 (expiry_day w.kinds n) b l))
+              absurd (true≢false (sym (expiry-first w.kinds n (expiry_day w.kinds n) x.first).1.2 ∙ f.3 (expiry_day w.kinds n) b l))
           | inr (inr l) ↦ inl (omega arith)
         ]
 
@@ -67,8 +67,8 @@ pub listed-later : (w : World) (h : History) (n : ℕ) → Lawful w (Listed n �
     → (expiry_of w.kinds n ≡ Some (expiry_day w.kinds n)) × (next_from w.start (latest_opened h) ≤ expiry_day w.kinds n)
 listed-later w h n l =
     let x = listing w h n l.0 in
-    let e : expiry_day w.kinds n ≡ x.0 = ap (λ o. unwrap_or o 0) x.1.is in
-    (x.1.is ∙ ap Some (sym e), rw e (by (latest_opened h) x.0 x.1.after-start x.1.after-latest))
+    let e : expiry_day w.kinds n ≡ x.0 = ap (λ o. unwrap_or o 0) x.1.first in
+    (x.1.first ∙ ap Some (sym e), rw e (by (latest_opened h) x.0 x.1.after-start x.1.after-latest))
   where
     by : (latest : Option ℕ) (expiry : ℕ) → w.start < expiry → unwrap_or latest 0 < expiry → next_from w.start latest ≤ expiry
     by None expiry s d = omega arith
@@ -77,7 +77,7 @@ listed-later w h n l =
 expires : (w : World) (h : History) → Lawful w h → AllByRecursion (Expires w (latest_opened h) (opened_days h)) (months_of h)
 expires w [] l = tt
 expires w (Listed n ∷ h) l =
-    All-push (Expires w (latest_opened h) (opened_days h)) (months_of h) n (expires w h l.1) (let x = listed-later w h n l in record { is = x.0; met = inl x.1 })
+    All-push (Expires w (latest_opened h) (opened_days h)) (months_of h) n (expires w h l.1) (let x = listed-later w h n l in record { first = x.0; met = inl x.1 })
 expires w (Opened d ∷ h) l =
     All-weaker (Expires w (latest_opened h) (opened_days h)) (Expires w (Some d) (opened_days h ++ d ∷ []))
     (step w (latest_opened h) (opened_days h) d (next_from w.start (latest_opened h) + 60) (next-first w h d l)) (months_of h) (expires w h l.1)
@@ -89,7 +89,7 @@ expires-at w h m l i = All-get_or (Expires w (latest_opened h) (opened_days h)) 
 -- the expiry of a listed month is the first session day of its month
 pub expiry-is : (w : World) (h : History) (m : ℕ) → Lawful w h → m < length (months_of h)
     → (month_at h m ≤ 1199) × First w.kinds (first_day (month_at h m)) (first_day (month_at h m + 1)) (Some (expiry_at w h m))
-expiry-is w h m l i = expiry-first w.kinds (month_at h m) (expiry_at w h m) (expires-at w h m l i).is
+expiry-is w h m l i = expiry-first w.kinds (month_at h m) (expiry_at w h m) (expires-at w h m l i).first
 
 -- an expiry that is not still to come was opened
 pub expiry-opened : (w : World) (h : History) (m : ℕ) → Lawful w h → m < length (months_of h) → expiry_at w h m < next_from w.start (latest_opened h)

@@ -23,7 +23,7 @@ after-start : (w : World) (h : History) → Lawful w h → AllByRecursion (λ n.
 after-start w [] l = tt
 after-start w (Listed n ∷ h) l =
     let x = listing w h n l.0 in
-    All-push (λ n. w.start < expiry_day w.kinds n) (months_of h) n (after-start w h l.1) (let e = ap (λ o. unwrap_or o 0) x.1.is in omega (arith, e, x.1.after-start))
+    All-push (λ n. w.start < expiry_day w.kinds n) (months_of h) n (after-start w h l.1) (let e = ap (λ o. unwrap_or o 0) x.1.first in omega (arith, e, x.1.after-start))
 after-start w (e ∷ h) l = after-start w h l.1
 
 pub expires-later : (w : World) (h : History) (m : ℕ) → Lawful w h → m < length (months_of h) → w.start < expiry_at w h m

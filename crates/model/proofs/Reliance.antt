@@ -8,6 +8,7 @@ use Rattle.std.proofs.lemmas.List.Sums.{length-filter, count_by-le-length}
 use Rattle.std.proofs.lemmas.Bool.{both_ways, cases_lt, and_parts, cond_both}
 use Rattle.calendar.specs.declared.kind.DayKind.{DayKind}
 use Rattle.calendar.specs.Kinds.{is_reserve}
+use Rattle.calendar.proofs.Spans.{days-none}
 use Rattle.calendar.specs.Spans.{First, days_by, reserve_days, first_in}
 use Rattle.correction.specs.Gaps.{factor_on, factors, corrected_price}
 use Rattle.interest.specs.Correction.{corrected_day, corrected}
@@ -20,7 +21,7 @@ use Rattle.rates.specs.Meanings.{or_else}
 use Rattle.model.specs.World.{World}
 use Rattle.model.specs.History.{History, Opened, Marked, Closed, trade_made, gather}
 use Rattle.model.specs.Observed.{is_listed, expiry_at, rate_on, latest_opened, session_day, open_session, next_from, trades_of, mark_of, settlement_price}
-use Rattle.model.specs.Sessions.{Session, sessions_of, latest_closed, has_reached, gap_to}
+use Rattle.model.specs.Sessions.{Session, sessions_of, latest_closed, has_reached, gap_since, gap_to}
 use Rattle.model.specs.Positions.{has_ended, contracts_in, position_of, carried_of, corrected_to}
 use Rattle.model.specs.Lawful.{Lawful}
 use Rattle.model.specs.Closing.{CarriedBefore, CarriedLimited, GapShort, CorrectedLimited, AdjustmentSeen}
@@ -113,14 +114,26 @@ first_short w d (s ∷ ss) latest e f =
     omega (arith, days-few is_reserve w.kinds s.day d)
 
 -- the gap of an open session has at most 60 reserve days
-pub gap-short : GapShort
-gap-short w [] d l o = absurd cc
-gap-short w (Opened x ∷ h) d l o =
+open-gap : (w : World) (h : History) (d : ℕ) → Lawful w h → open_session h ≡ Some d → length (gap_to w d (sessions_of w h)) ≤ 60
+open-gap w [] d l o = absurd cc
+open-gap w (Opened x ∷ h) d l o =
     let q : x ≡ d = cc in
     rw (sym q)
     (first_short w x (sessions_of w h) (latest_opened h) (closed-latest w h l.1 (opening w h x l.0)) (next-first w h x l))
-gap-short w (Closed c ∷ h) d l o = absurd cc
-gap-short w (e ∷ h) d l o = gap-short w h d l.1 o
+open-gap w (Closed c ∷ h) d l o = absurd cc
+open-gap w (e ∷ h) d l o = open-gap w h d l.1 o
+
+-- none of the latest session, if it is closed
+shut-gap : (kinds : ℕ → DayKind) (latest closed : Option ℕ) → latest ≡ closed → length (gap_since kinds closed (unwrap_or latest 0)) ≤ 60
+shut-gap kinds latest None e = omega arith
+shut-gap kinds latest (Some d) e = rw (e, days-none is_reserve kinds d d (omega arith)) (omega arith)
+
+pub gap-short : GapShort
+gap-short w h l = by (open_session h) refl
+  where
+    by : (o : Option ℕ) → open_session h ≡ o → length (gap_since w.kinds (latest_closed w h) (session_day h)) ≤ 60
+    by None e = shut-gap w.kinds (latest_opened h) (latest_closed w h) (closed-latest w h l e)
+    by (Some d) e = rw (open-on h d e).day (open-gap w h d l e)
 
 -- a day adds at most 55,089 to a price of at most 20,000,000
 day-adds : (price g : ℕ) → price ≤ 20000000 → g ≤ 100275437 → corrected_day price g ≤ price + 55089
@@ -156,17 +169,15 @@ corrected-most kinds rates b from to price n p =
     let days = reserve_days kinds from to in
     corrected-small price (factors rates days) p (factors-small rates b days) (rw (length-map days (factor_on rates)) n)
 
--- the latest settlement price, corrected to the open session
+-- the latest settlement price, corrected to the latest session
 pub corrected-limited : CorrectedLimited
-corrected-limited w h d m l o b = by (sessions_of w h) (prices-limited w h l) (gap-short w h d l o)
+corrected-limited w h m l b = by (sessions_of w h) (prices-limited w h l) (gap-short w h l)
   where
-    by : (ss : List Session) → AllByRecursion (λ s. (m : ℕ) → s.prices m ≤ 10000000) ss → length (gap_to w d ss) ≤ 60 → corrected_to w (rate_on w h) d ss m ≤ 13305340
+    by : (ss : List Session) → AllByRecursion (λ s. (m : ℕ) → s.prices m ≤ 10000000) ss → length (gap_to w (session_day h) ss) ≤ 60 → corrected_to w (rate_on w h) (session_day h) ss m ≤ 13305340
     by [] p n = omega arith
-    by (s ∷ ss) p n = corrected-most w.kinds (rate_on w h) b s.day d (s.prices m) n (p.0 m)
+    by (s ∷ ss) p n = corrected-most w.kinds (rate_on w h) b s.day (session_day h) (s.prices m) n (p.0 m)
 
 -- the adjustment of the rules, on what is known at the close
 pub adjustment-seen : AdjustmentSeen
 adjustment-seen w h d a m l o =
-    let carried = carried-before w h d a m l o in
-    let day = (open-on h d o).day in
-    λ i. adjustment_of a m (settlement_price w h m) (trades_of h) (carried i) (corrected_to w (rate_on w h) (day i) (sessions_of w h) m)
+    ap (λ z. adjustment_of a m (settlement_price w h m) (trades_of h) z (corrected_to w (rate_on w h) (session_day h) (sessions_of w h) m)) (carried-before w h d a m l o)

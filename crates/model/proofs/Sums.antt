@@ -23,7 +23,7 @@ use Rattle.model.specs.Limits.{RatesLimited, AmountsWithin, AmountsLimited, Dues
 use Rattle.model.specs.Observed.{months_of, rate_on, session_day, open_session, trades_of, settlement_price}
 use Rattle.model.specs.Positions.{carried_of, corrected_to, adjustment_at, written_for}
 use Rattle.model.specs.Sessions.{sessions_of}
-use Rattle.model.proofs.Allowing.{open-on, closing}
+use Rattle.model.proofs.Allowing.{closing}
 use Rattle.model.proofs.Balancing.{once-below}
 use Rattle.model.proofs.Cells.{cells}
 use Rattle.model.proofs.Days.{closes-few, session-bound}
@@ -95,7 +95,7 @@ module _ (w : World) (h : History) (l : Lawful w h) (bounded : RatesLimited (rat
 
   on-carried : (m : ℕ) → nat_abs (gain_of (carried_of w h a m) (settlement_price w h m) (corrected_at m)) ≤ 6652670000000
   on-carried m =
-      let c : corrected_at m ≤ 13305340 = rw (open-on h d o).day (corrected-limited w h d m l o (rates-stay-limited w h bounded l)) in
+      let c : corrected_at m ≤ 13305340 = corrected-limited w h m l (rates-stay-limited w h bounded l) in
       let p = price-limited w h l m in
       let g = gain-most (carried_of w h a m) (settlement_price w h m) (corrected_at m) 13305340 (omega arith) c in
       omega (arith, carried-limited w h a m l)

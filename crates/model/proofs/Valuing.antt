@@ -22,7 +22,7 @@ use Rattle.model.proofs.Falling.{Falling, unreached}
 use Rattle.model.proofs.Gathering.{length-with_last}
 use Rattle.model.proofs.SessionOrder.{falling, open-later}
 use Rattle.model.proofs.Rated.{Kept, rate-stays, factors-stay, rated-stay}
-use Rattle.model.proofs.Telescope.{NearFrom, Adjusted, Ruled, all-kept, near}
+use Rattle.model.proofs.Telescope.{WithinFrom, Adjusted, Ruled, all-kept, within}
 
 module _ (w : World) (a m expiry : ℕ) where
   -- a session up to the expiry is adjusted by the rules, over a gap whose reserve days have rates
@@ -57,16 +57,16 @@ module _ (w : World) (a m expiry : ℕ) where
   ruled rates (s ∷ ss) b h = (h.0.adjusted b.0, ruled rates ss b.1 h.1)
 
   -- the claim of the sessions up to the expiry
-  near-upto : (rates : ℕ → Option ℕ) (d : ℕ) (ss : List Session) → Falling ss → AllRightly rates ss → NearFrom w rates (oldest_day d ss) a m (up_to expiry ss)
-  near-upto rates d [] f h = omega (arith, ints)
-  near-upto rates d (s ∷ ss) f h = by (leb s.day expiry) refl (near-upto rates s.day ss f.1 h.1)
+  within-upto : (rates : ℕ → Option ℕ) (d : ℕ) (ss : List Session) → Falling ss → AllRightly rates ss → WithinFrom w rates (oldest_day d ss) a m (up_to expiry ss)
+  within-upto rates d [] f h = omega (arith, ints)
+  within-upto rates d (s ∷ ss) f h = by (leb s.day expiry) refl (within-upto rates s.day ss f.1 h.1)
     where
-      by : (b : Bool) → leb s.day expiry ≡ b → NearFrom w rates (oldest_day s.day ss) a m (up_to expiry ss)
-          → NearFrom w rates (oldest_day s.day ss) a m (cond b (s ∷ up_to expiry ss) (up_to expiry ss))
+      by : (b : Bool) → leb s.day expiry ≡ b → WithinFrom w rates (oldest_day s.day ss) a m (up_to expiry ss)
+          → WithinFrom w rates (oldest_day s.day ss) a m (cond b (s ∷ up_to expiry ss) (up_to expiry ss))
       by true e earlier =
           let l = leb-true s.day expiry e in
           let all = All-weaker (λ r. r.day < s.day) (λ r. r.day ≤ expiry) (λ r b. omega arith) ss f.0 in
-          rw (all-kept expiry ss all) (near w rates a m (oldest_day s.day ss) s ss f (ruled rates (s ∷ ss) (l, all) h) refl)
+          rw (all-kept expiry ss all) (within w rates a m (oldest_day s.day ss) s ss f (ruled rates (s ∷ ss) (l, all) h) refl)
       by false e earlier = earlier
 
 -- the month has not expired before the close of a session up to its expiry
@@ -105,10 +105,10 @@ all_right w (e ∷ h) l a m expiry is =
     rightly-stays w a m expiry (rate_on w h) (rate_on w (e ∷ h)) (λ d r. rate-stays w h e d r l) (sessions_of w h)
     (all_right w h l.1 a m expiry (before-event w h e m expiry is))
 
-near-value : (w : World) (h : History) → Lawful w h → (a m : ℕ)
-    → NearFrom w (rate_on w h) (oldest_day 0 (sessions_of w h)) a m (up_to (expiry_at w h m) (sessions_of w h))
-near-value w h l a m =
-    near-upto w a m (expiry_at w h m) (rate_on w h) 0 (sessions_of w h) (falling w h l) (all_right w h l a m (expiry_at w h m) (λ _. refl))
+value-within : (w : World) (h : History) → Lawful w h → (a m : ℕ)
+    → WithinFrom w (rate_on w h) (oldest_day 0 (sessions_of w h)) a m (up_to (expiry_at w h m) (sessions_of w h))
+value-within w h l a m =
+    within-upto w a m (expiry_at w h m) (rate_on w h) 0 (sessions_of w h) (falling w h l) (all_right w h l a m (expiry_at w h m) (λ _. refl))
 
 pub always-valued : AlwaysValued
-always-valued w h l = record { within_tolerance = λ a m b. near-value w h l a m; nothing_after = ended w h l }
+always-valued w h l = record { within_tolerance = λ a m b. value-within w h l a m; nothing_after = ended w h l }

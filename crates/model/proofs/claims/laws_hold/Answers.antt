@@ -1,6 +1,7 @@
 use Rattle.model.proofs.claims.laws_hold.Goals as goal
 use Rattle.model.proofs.Apart.{months-apart, trades-apart}
 use Rattle.model.proofs.Balancing.{positions-balance}
+use Rattle.model.proofs.Cells.{listed-written}
 use Rattle.model.proofs.Days.{closed-days, closes-few, opened-sessions}
 use Rattle.model.proofs.Dues.{dues-move, pays-latest, unpaid-stays}
 use Rattle.model.proofs.Ended.{trades-in-time}
@@ -15,7 +16,7 @@ use Rattle.model.proofs.SessionOrder.{sessions-rise}
 use Rattle.model.proofs.Priced.{trades-priced}
 use Rattle.model.proofs.Rated.{rates-stay}
 use Rattle.model.proofs.Reliance.{carried-before, carried-limited, gap-short, corrected-limited, adjustment-seen}
-use Rattle.model.proofs.Sizes.{tables-limited, trades-limited, prices-within, rates-stay-limited, rates-were-limited}
+use Rattle.model.proofs.Sizes.{months-few, tables-limited, trades-limited, prices-within, rates-stay-limited, rates-were-limited}
 use Rattle.model.proofs.Sums.{amounts-limited, dues-fit, dues-limited, nothing-due}
 use Rattle.model.proofs.Unpaid.{one-unpaid, closes-paid}
 use Rattle.model.proofs.Written.{day-trades-written, nothing-outside}
@@ -60,7 +61,7 @@ returns-clause-limits c = record {
 
 pub returns-clause-closing : goal.returns-clause-closing
 returns-clause-closing c =
-    record { carried = carried-before; carried_limited = carried-limited; gap = gap-short; corrected = corrected-limited; adjustment = adjustment-seen; due = nothing-due }
+    record { carried = carried-before; carried_limited = carried-limited; gap = gap-short; corrected = corrected-limited; adjustment = adjustment-seen; listed = λ w h a l. listed-written w h a (months-few w h l); due = nothing-due }
 
 pub returns-clause-imports : goal.returns-clause-imports
 returns-clause-imports c = imports-hold
