@@ -9,7 +9,7 @@ mod trades;
 pub use amounts::{MOST_CARRIED, adjustment};
 pub use day::day_trade;
 pub use session::position_change;
-pub use trades::{AccountMonth, MOST_QUANTITY, MOST_TRADES, Side, Trade, contracts_of};
+pub use trades::{AccountMonth, MOST_QUANTITY, MAX_TRADES, Side, Trade, contracts_of};
 
 #[cfg(test)]
 mod tests;

@@ -5,7 +5,7 @@ ghost use Rattle.std.proofs.Props.{props};
 ghost use Rattle.amounts.specs.Trades.{position_change, Limited};
 ghost use Rattle.amounts.specs.DayTrades.{units};
 
-use crate::trades::{AccountMonth, MOST_QUANTITY, MOST_TRADES, Side, Trade};
+use crate::trades::{AccountMonth, MOST_QUANTITY, MAX_TRADES, Side, Trade};
 
 // The trades of a session, in order of acceptance.
 #[derive(Clone, Copy)]
@@ -19,7 +19,7 @@ impl<'a> SessionTrades<'a> {
     pub(crate) fn new(trades: &'a [Trade]) -> Option<SessionTrades<'a>>
         ensures { MatchOption result (¬ Limited trades.now) (λ s. s.trades.now ≡ trades.now) }
     {
-        if trades.len() > MOST_TRADES || trades.iter().any(|trade| trade.quantity > MOST_QUANTITY) {
+        if trades.len() > MAX_TRADES || trades.iter().any(|trade| trade.quantity > MOST_QUANTITY) {
             return None;
         }
         Some(SessionTrades { trades })

@@ -3,7 +3,7 @@ ghost use Rattle.std.specs.Prelude.{◌≡◌, ◌≤◌, unsigned_abs};
 ghost use Rattle.amounts.specs.Trades.{party_of, lots_of, contracts_of};
 
 // The most trades of a session.
-pub const MOST_TRADES: usize = 256;
+pub const MAX_TRADES: usize = 256;
 
 // The most contracts of a trade.
 pub const MOST_QUANTITY: u32 = 20_000;

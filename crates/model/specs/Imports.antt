@@ -6,9 +6,9 @@ use Rattle.rows.specs.Rows.{Reason, Row, numbered, first_row}
 use Rattle.sheet.specs.Codes.{place_in}
 use Rattle.sheet.specs.Faults.{fault_reason, write_reason}
 use Rattle.sheet.specs.Sheet.{day_of, fault_line, trades_of, Sheet, OnDay, Refused, Unwritten}
-use Rattle.sheet.specs.declared.trade.SheetFault.{SheetFault}
-use Rattle.sheet.specs.declared.trade.TradeLine.{TradeLine}
-use Rattle.sheet.specs.declared.trade.WriteFault.{WriteFault}
+use Rattle.sheet.specs.declared.fault.SheetFault.{SheetFault}
+use Rattle.sheet.specs.declared.trade_line.TradeLine.{TradeLine}
+use Rattle.sheet.specs.declared.fault.WriteFault.{WriteFault}
 use Rattle.amounts.specs.declared.trades.Trade.{Trade}
 use Rattle.model.specs.declared.calls.Layer.{Layer}
 use Rattle.model.specs.declared.calls.Layer.TheVariants as layers

@@ -3,8 +3,8 @@ use Rattle.std.specs.Prelude.{◌≡◌, ℕ, List, [], ◌∷◌, map}
 use Rattle.rates.specs.declared.entry.DayRate.{DayRate}
 use Rattle.rows.specs.Rows.{Row}
 use Rattle.sheet.specs.Faults.{fault_reason, write_reason}
-use Rattle.sheet.specs.declared.trade.SheetFault.{SheetFault}
-use Rattle.sheet.specs.declared.trade.WriteFault.TheVariants.{Short, BadSheet}
+use Rattle.sheet.specs.declared.fault.SheetFault.{SheetFault}
+use Rattle.sheet.specs.declared.fault.WriteFault.TheVariants.{Short, BadSheet}
 use Rattle.model.specs.declared.calls.Account.{Account}
 use Rattle.model.specs.declared.calls.Order.{Order}
 use Rattle.model.specs.History.{History}

@@ -1,7 +1,6 @@
 -- Laws of layers.
-use Rattle.std.proofs.Common.{◌≡◌, ℕ, ◌≤◌, true, List, [], ◌∷◌, None, vec_items, vec_len, vec_capacity, Option, refl, arith}
+use Rattle.std.proofs.Common.{◌≡◌, ℕ, true, List, [], ◌∷◌, None, Option, refl, arith}
 use Rattle.std.proofs.Math.Bool.{Bool-set}
-use Rattle.std.proofs.Math.Bridge.{le_prop}
 use Rattle.std.proofs.lemmas.Bool.Decides.{nat_tests}
 use Rattle.rows.specs.Rows.{first_row}
 use Rattle.rates.specs.declared.layer.ArbitrationLayer.{ArbitrationLayer}
@@ -37,7 +36,6 @@ pub layer-answers : (m : Meaning) (days : List DayRate) (entry : DayRate) (perio
 layer-answers m days entry period free = grind (arith, nat_tests)
 
 -- a layer is the same where what is below is the same
-pub same-layer : {X : Type 0} (x : ArbitrationLayer X) (b : X) (few : vec_len x.days ≤ 16) (room : 16 ≤ vec_capacity x.days) (limited : within_limit (vec_items x.days) ≡ true) → b ≡ x.below
-    → ◌≡◌ {A = ArbitrationLayer X} (record { below = b; days = x.days; few = few; room = room; limited = limited }) x
-same-layer x b few room limited e =
-    λ i. record { below = e i; days = x.days; few = le_prop few x.few i; room = le_prop room x.room i; limited = Bool-set _ _ limited x.limited i }
+pub same-layer : {X : Type 0} (x : ArbitrationLayer X) (b : X) (limited : within_limit x.days.items ≡ true) → b ≡ x.below
+    → ◌≡◌ {A = ArbitrationLayer X} (record { below = b; days = x.days; limited = limited }) x
+same-layer x b limited e = λ i. record { below = e i; days = x.days; limited = Bool-set _ _ limited x.limited i }

@@ -5,9 +5,9 @@ use Rattle.std.proofs.ByRecursion.{All-from_get_or}
 use Rattle.std.specs.List.{slice_get}
 use Rattle.std.proofs.lemmas.List.{drop_all, drop_more}
 use Rattle.std.proofs.lemmas.Option.{slice_get_cases, slice_get_within, get_or_from_slice_get, none-some}
-use Rattle.sheet.specs.declared.trade.TradeLine.{TradeLine}
-use Rattle.sheet.specs.declared.trade.SheetFault.{SheetFault}
-use Rattle.sheet.specs.declared.trade.SheetFault.TheVariants.{Length, Count, Day, Code}
+use Rattle.sheet.specs.declared.trade_line.TradeLine.{TradeLine}
+use Rattle.sheet.specs.declared.fault.SheetFault.{SheetFault}
+use Rattle.sheet.specs.declared.fault.SheetFault.TheVariants.{Length, Count, Day, Code}
 use Rattle.sheet.specs.declared.view.SheetView.{SheetView}
 use Rattle.sheet.specs.Codes.{month_of, IsCode, NoCode}
 use Rattle.sheet.specs.Sheet.{sheet_bytes, Valid, Sheet, Refused, OnDay, most_trades, count_of, day_of, code_of, lines_of, trades_of}

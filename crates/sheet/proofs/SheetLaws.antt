@@ -8,7 +8,7 @@ use Rattle.std.proofs.ByRecursion.{All-take, All-drop, All-get_or, All-from_get_
 use Rattle.std.proofs.lemmas.Simd.{length-chunk, chunk-drop}
 use Rattle.std.proofs.lemmas.List.{length-append, length-drop, append-nil, take_all, take-append-drop, same_lists}
 use Rattle.std.proofs.lemmas.Option.{slice_get-get_or, slice_get_past}
-use Rattle.sheet.specs.declared.trade.TradeLine.{TradeLine}
+use Rattle.sheet.specs.declared.trade_line.TradeLine.{TradeLine}
 use Rattle.sheet.specs.Codes.{code_bytes, last_month, month_of, IsCode}
 use Rattle.sheet.specs.Sheet.{little, number, sides, terms, sheet_bytes, most_trades, FitsLine, Valid, count_of, day_of, sides_at, terms_at, code_of, trade_from, lines_of, trades_of, Sheet}
 use Rattle.sheet.proofs.CodeLaws.{month-back, is_code}

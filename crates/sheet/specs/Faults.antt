@@ -1,10 +1,10 @@
 -- The reasons that the faults of a sheet are, and their words.
 use Rattle.std.specs.Prelude.{ℕ, List, ◌++◌, codes, decimal}
 use Rattle.rows.specs.Rows.{Reason, numbered}
-use Rattle.sheet.specs.declared.trade.SheetFault.{SheetFault}
-use Rattle.sheet.specs.declared.trade.SheetFault.TheVariants.{Length, Count, Day, Code}
-use Rattle.sheet.specs.declared.trade.WriteFault.{WriteFault}
-use Rattle.sheet.specs.declared.trade.WriteFault.TheVariants.{Short, BadSheet}
+use Rattle.sheet.specs.declared.fault.SheetFault.{SheetFault}
+use Rattle.sheet.specs.declared.fault.SheetFault.TheVariants.{Length, Count, Day, Code}
+use Rattle.sheet.specs.declared.fault.WriteFault.{WriteFault}
+use Rattle.sheet.specs.declared.fault.WriteFault.TheVariants.{Short, BadSheet}
 
 -- on reading: a bad sheet, whatever the fault
 abbrev pub fault_reason : SheetFault → Reason

@@ -2,11 +2,11 @@
 use Rattle.std.specs.Prelude.{◌≡◌, ℕ, ◌+◌, ◌*◌, ◌^◌, ◌<◌, ◌≤◌, List, [], ◌∷◌, ◌++◌, map, length, take, Some, None, Option, ◌≢◌, slice_index}
 use Rattle.std.specs.Simd.Lanes.{number_l, digits_l, chunk}
 use Rattle.std.specs.List.{range_with_len, flat_map, AllByRecursion}
-use Rattle.sheet.specs.declared.trade.TradeLine.{TradeLine}
-use Rattle.sheet.specs.declared.trade.SheetFault.{SheetFault}
-use Rattle.sheet.specs.declared.trade.SheetFault.TheVariants.{Length, Count, Day, Code}
-use Rattle.sheet.specs.declared.trade.WriteFault.{WriteFault}
-use Rattle.sheet.specs.declared.trade.WriteFault.TheVariants.{Short, BadSheet}
+use Rattle.sheet.specs.declared.trade_line.TradeLine.{TradeLine}
+use Rattle.sheet.specs.declared.fault.SheetFault.{SheetFault}
+use Rattle.sheet.specs.declared.fault.SheetFault.TheVariants.{Length, Count, Day, Code}
+use Rattle.sheet.specs.declared.fault.WriteFault.{WriteFault}
+use Rattle.sheet.specs.declared.fault.WriteFault.TheVariants.{Short, BadSheet}
 use Rattle.sheet.specs.Codes.{code_bytes, last_month, month_of, IsCode}
 
 -- the k bytes of a number, the lowest first

@@ -1,7 +1,7 @@
 -- What a view of a sheet says, and when bytes are accepted. Assumes nothing.
 use Rattle.std.specs.Prelude.{◌≡◌, ℕ, List, length, Option, Result, MatchResult, ◌≢◌}
-use Rattle.sheet.specs.declared.trade.SheetFault.{SheetFault}
-use Rattle.sheet.specs.declared.trade.TradeLine.{TradeLine}
+use Rattle.sheet.specs.declared.fault.SheetFault.{SheetFault}
+use Rattle.sheet.specs.declared.trade_line.TradeLine.{TradeLine}
 use Rattle.sheet.specs.declared.view.SheetView.{SheetView}
 use Rattle.sheet.specs.Sheet.{sheet_bytes, Valid, Sheet, count_of, day_of, lines_of, OnDay, Refused}
 

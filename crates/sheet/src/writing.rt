@@ -6,7 +6,8 @@ ghost use Rattle.sheet.specs.Codes.{code_bytes, last_month};
 ghost use Rattle.sheet.specs.Sheet.{little, sides, terms, sheet_bytes, FitsLine, Listable, Valid, Unwritten};
 
 use crate::code::ContractCode;
-use crate::trade::{MOST_TRADES, TradeLine, WriteFault};
+use crate::fault::WriteFault;
+use crate::trade_line::{MAX_TRADES, TradeLine};
 
 // Writes the sheet of these trades, and answers its length.
 pub fn write(day: u16, trades: &[TradeLine], out: &mut [u8]) -> Result<usize, WriteFault>
@@ -46,7 +47,7 @@ impl<'a> ListedTrades<'a> {
         ensures value { MatchOption result (¬ Listable trades.now) (λ t. t.trades.now ≡ trades.now) }
         ensures fits { IfSome result (λ _. AllByRecursion FitsLine trades.now) }
     {
-        if trades.len() > MOST_TRADES as usize || !are_coded(trades) {
+        if trades.len() > MAX_TRADES as usize || !are_coded(trades) {
             return None;
         }
         Some(ListedTrades { trades })

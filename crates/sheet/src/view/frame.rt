@@ -4,8 +4,9 @@ ghost use Rattle.sheet.specs.Codes.{IsCode};
 ghost use Rattle.sheet.specs.Sheet.{Framed, Refused, count_of, day_of, code_of, sides_at, terms_at};
 
 use crate::code::ContractCode;
-use crate::numbers::array_of;
-use crate::trade::{MOST_TRADES, SheetFault};
+use crate::fault::SheetFault;
+use crate::trade_line::MAX_TRADES;
+use super::array_of;
 
 // Bytes whose length is that of a sheet, with the count and the day of their head.
 // Kept: the count stands beside the whole bytes, tied to them below; two slices would need it too, since the definitions speak of the whole.
@@ -29,7 +30,7 @@ impl<'a> Frame<'a> {
         }
         let count = u16::from_le_bytes(array_of(&bytes[0..2]));
         let day = u16::from_le_bytes(array_of(&bytes[2..4]));
-        if count > MOST_TRADES {
+        if count > MAX_TRADES {
             return Err(SheetFault::Count);
         }
         if bytes.len() != 4 + 16 * count as usize {

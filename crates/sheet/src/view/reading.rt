@@ -6,7 +6,7 @@ ghost use Rattle.sheet.specs.Views.{view_bytes, view_day, Sound, Outcome, ReadsB
 
 use super::SheetView;
 use super::frame::Frame;
-use crate::trade::SheetFault;
+use crate::fault::SheetFault;
 
 // The sheet that these bytes are.
 pub fn read(bytes: &[u8]) -> Result<SheetView<'_>, SheetFault>
