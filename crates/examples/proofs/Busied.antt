@@ -4,7 +4,7 @@ use Rattle.model.specs.Lawful.{Lawful}
 use Rattle.examples.specs.Busy.{busy_history, order_history, JanuarySeen, BusyHolds}
 use Rattle.examples.specs.Examples.{run_world}
 use Rattle.examples.proofs.Exampled.{figures, paper, closes}
-use Rattle.model.proofs.Monthly.{december, december-31}
+use Rattle.examples.proofs.Monthly.{december, december-31}
 
 -- up to the first close, the newest event first
 busy-first : Lawful run_world (drop 19 busy_history)

@@ -12,7 +12,7 @@ use Rattle.examples.specs.Examples.{both}
 use Rattle.model.specs.Value.{Valued}
 use Rattle.examples.specs.Wrong.{wrong_world, wrong_history, right_history, wrong_amounts, book_of, OutsideTolerance, WrongCaught}
 use Rattle.examples.proofs.Exampled.{figures, paper, closes}
-use Rattle.model.proofs.Monthly.{december, january}
+use Rattle.examples.proofs.Monthly.{december, january}
 
 -- up to the first close, the newest event first
 right-first : Lawful wrong_world (drop 7 right_history)

@@ -2,7 +2,7 @@
 use Rattle.std.proofs.Common.{refl}
 use Rattle.examples.specs.Edges.{EdgesHold}
 use Rattle.examples.proofs.Exampled.{figures}
-use Rattle.model.proofs.Monthly.{december, december-31, january, january-4}
+use Rattle.examples.proofs.Monthly.{december, december-31, january, january-4}
 
 pub edges-hold : EdgesHold
 unfolding figures

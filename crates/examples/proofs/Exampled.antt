@@ -17,7 +17,7 @@ use Rattle.model.specs.Observed.{accounts_of, months_of, trades_of}
 use Rattle.model.specs.Positions.{adjustment_at}
 use Rattle.model.specs.Rows.{SessionReference, cells_of, close_rows}
 use Rattle.model.specs.Lawful.{Allowed, Closes, InBook, Lawful}
-use Rattle.model.proofs.Monthly.{december}
+use Rattle.examples.proofs.Monthly.{december}
 use Rattle.examples.specs.Examples.{table, rows_of, run_world, run_history, RunHolds, RunSeen, weekdays, full_history, FullHolds}
 
 -- what the proofs compute with

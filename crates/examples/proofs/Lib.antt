@@ -2,3 +2,4 @@ pub mod Busied
 pub mod Caught
 pub mod Edged
 pub mod Exampled
+pub mod Monthly

@@ -1,5 +1,5 @@
 -- What a close writes: the amounts of each account in each month, and where they stand in an array.
-use Rattle.std.specs.Prelude.{ℕ, zero, suc, ◌+◌, ◌*◌, Bool, cond, ◌&&◌, List, [], ◌++◌, map, length, drop, ℤ, pos}
+use Rattle.std.specs.Prelude.{ℕ, zero, suc, ◌+◌, ◌*◌, cond, ◌&&◌, List, [], ◌++◌, map, length, drop, ℤ, pos}
 use Rattle.std.specs.List.{range_with_len}
 use Rattle.amounts.specs.DayTrades.{day_trade}
 use Rattle.model.specs.World.{World}
