@@ -2,3 +2,6 @@ pub mod Tables
 pub mod Inside
 pub mod Causes
 pub mod Changes
+pub mod Keeps
+pub mod Calls
+pub mod Returned

@@ -2,6 +2,8 @@
 #![tactic(auto)]
 
 mod ledger;
+mod position_book;
 mod references;
 
+pub use position_book::{Book, Kept};
 pub use references::{CloseRefused, PayRefused, Slip, Ticket};
