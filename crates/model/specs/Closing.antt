@@ -1,6 +1,7 @@
 -- What a close can rely on: laws of the session that is open.
 use Rattle.std.specs.Prelude.{◌≡◌, ℕ, ◌≤◌, ◌∷◌, length, pos, ◌-ℤ◌, Some, unsigned_abs}
 use Rattle.std.specs.List.{range_with_len}
+use Rattle.calendar.specs.declared.span.TheConstants.{MAX_SESSION_SEARCH_DAYS}
 use Rattle.amounts.specs.Amounts.{adjustment_of}
 use Rattle.amounts.specs.Sums.{total}
 use Rattle.amounts.specs.Trades.{position_change}
@@ -24,7 +25,7 @@ CarriedLimited = (w : World) (h : History) (a m : ℕ) → Lawful w h → unsign
 
 -- from the latest closed session to the latest session there are at most 60 reserve days
 abbrev pub GapShort : Type 0
-GapShort = (w : World) (h : History) → Lawful w h → length (gap_since w.kinds (latest_closed w h) (session_day h)) ≤ 60
+GapShort = (w : World) (h : History) → Lawful w h → length (gap_since w.kinds (latest_closed w h) (session_day h)) ≤ MAX_SESSION_SEARCH_DAYS
 
 -- so a corrected price is at most 13,305,340, where no rate is over 99,999,999
 abbrev pub CorrectedLimited : Type 0
