@@ -1,7 +1,6 @@
 // Why a trade sheet is not read, or not written.
 ghost use Rattle.std.specs.Prelude.{◌≡◌, Some};
-ghost use Rattle.sheet.specs.Faults.{fault_message, write_message};
-ghost use Rattle.sheet.specs.Sheet.{fault_line};
+ghost use Rattle.sheet.specs.Faults.{fault_line, fault_message, write_message};
 
 use std::error::Error;
 use std::fmt;
