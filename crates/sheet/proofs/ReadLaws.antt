@@ -13,7 +13,7 @@ use Rattle.rows.proofs.RowLaws.{none-first}
 use Rattle.sheet.specs.declared.trade_line.TheConstants.{MAX_TRADES}
 use Rattle.sheet.specs.declared.trade_line.TradeLine.{TradeLine}
 use Rattle.sheet.specs.declared.fault.SheetFault.{SheetFault}
-use Rattle.sheet.specs.declared.fault.SheetFault.TheVariants.{Length, Count, Day, Code}
+use Rattle.sheet.specs.declared.fault.SheetFault.TheVariants.{Day, Code}
 use Rattle.sheet.specs.declared.view.SheetView.{SheetView}
 use Rattle.sheet.specs.Codes.{month_of, is_code, NoCode}
 use Rattle.sheet.specs.Sheet.{sheet_bytes, Valid, count_of, day_of, code_of, lines_of, trades_of, is_on, code_rows, read_fault}

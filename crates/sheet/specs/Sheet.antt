@@ -1,5 +1,5 @@
 -- The trade sheet and its bytes, and why bytes are no sheet. Assumes nothing.
-use Rattle.std.specs.Prelude.{◌≡◌, ℕ, ◌+◌, ◌*◌, ◌^◌, ◌<◌, Bool, true, not, ◌&&◌, List, [], ◌∷◌, ◌++◌, map, length, take, Some, None, Option, IsTrue, ◌==◌, nat_le, nat_lt, slice_index}
+use Rattle.std.specs.Prelude.{ℕ, ◌+◌, ◌*◌, ◌^◌, ◌<◌, Bool, true, not, ◌&&◌, List, [], ◌∷◌, ◌++◌, map, length, take, Some, None, Option, IsTrue, ◌==◌, nat_le, nat_lt, slice_index}
 use Rattle.std.specs.Simd.Lanes.{number_l, digits_l, chunk}
 use Rattle.std.specs.List.{range_with_len, flat_map, list_all, AllByRecursion}
 use Rattle.dates.specs.declared.TheConstants.{LAST_MONTH}

@@ -7,7 +7,7 @@ use crate::letters::{letter, month_of_letter};
 use dates::LAST_MONTH;
 use std::fmt;
 
-// A month that has a code, counted from January 2000.
+/// A month that has a code.
 #[derive(Clone, Copy, PartialEq, Eq, Debug)]
 pub struct ContractCode {
     month: u32,
@@ -15,7 +15,7 @@ pub struct ContractCode {
 }
 
 impl ContractCode {
-    // The code of a month.
+    /// The code of a month, which is none after December 2099.
     pub fn new(month: u32) -> Option<ContractCode>
         ensures { MatchOption result (LAST_MONTH < month) (λ c. c.month ≡ month) }
     {
@@ -27,14 +27,14 @@ impl ContractCode {
         }
     }
 
-    // The month, counted from January 2000.
+    /// The month, counted from January 2000.
     pub fn month(&self) -> u32
         ensures { (result ≡ self.now.month) × (result ≤ LAST_MONTH) }
     {
         self.month
     }
 
-    // The month whose code these bytes are.
+    /// The month whose code these bytes are.
     // Kept: a TryFrom of a month or of bytes would need error types that say no more than None.
     pub fn from_bytes(bytes: &[u8]) -> Option<ContractCode>
         ensures { MatchOption result (NoCode bytes.now) (λ c. Names bytes.now c.month) }
@@ -49,7 +49,7 @@ impl ContractCode {
         })
     }
 
-    // The six bytes of the code.
+    /// The six bytes of the code.
     pub fn bytes(&self) -> [u8; 6]
         ensures { result ≡ code_bytes self.now.month }
     {
