@@ -1,6 +1,5 @@
 -- What a close writes is what the rules give, for every account and month, in the book or not.
 use Rattle.std.proofs.Common.{◌≡◌, ℕ, zero, suc, ◌+◌, ◌<◌, ◌≤◌, ◌+ℤ◌, ◌⊎◌, Bool, true, false, cond, ◌&&◌, List, [], ◌∷◌, length, ℤ, pos, ◌-ℤ◌, sym, refl, ap, ◌∙◌, inl, inr, arith}
-use mathlib.Core.Path.{fun_ext}
 use lib.IntN.{zero-*ℤ}
 use borrow.Author.Differences.{ints}
 use Rattle.std.specs.List.{AllByRecursion, range_with_len}
@@ -22,12 +21,12 @@ use Rattle.model.specs.Lawful.{Lawful}
 use Rattle.model.specs.Closes.{in_book, amounts_at_close}
 use Rattle.model.proofs.Dealt.{Fits, session-fits, closed-fit}
 
-pub contracts_on-outside : (side : Side) (n k a m : ℕ) (t : Trade) → party_of side t < n → t.month < k → ((a < n) × (m < k) → ⊥) → contracts_on side a m t ≡ 0
-contracts_on-outside side n k a m t p q out = grind (arith, nat_tests)
+pub side-outside : (side : Side) (n k a m : ℕ) (t : Trade) → party_of side t < n → t.month < k → ((a < n) × (m < k) → ⊥) → contracts_on side a m t ≡ 0
+side-outside side n k a m t p q out = grind (arith, nat_tests)
 
 -- an account or month outside has no contracts in a trade that fits
 pub outside : (n k a m : ℕ) (t : Trade) → Fits n k t → ((a < n) × (m < k) → ⊥) → contracts_of a m t ≡ pos 0
-outside n k a m t f out = rw (contracts_on-outside Bought n k a m t f.seller f.month out, contracts_on-outside Sold n k a m t f.buyer f.month out)
+outside n k a m t f out = rw (side-outside Bought n k a m t f.seller f.month out, side-outside Sold n k a m t f.buyer f.month out)
 
 -- a sum of nothing but zeros
 pub total-none : {X : Type 0} (f : X → ℤ) (xs : List X) → AllByRecursion (λ x. f x ≡ pos 0) xs → total f xs ≡ pos 0
@@ -102,13 +101,6 @@ cells w h c l a m =
       | inl b ↦ in-book h (adjustment_at w h) a m b
       | inr out ↦ outside-book h (adjustment_at w h) a m out ∙ sym (adjustment-outside w h l.1 a m out)
     ]
-
--- amounts that are the same in each cell are the same
-pub same-amounts : (x y : Amounts) → ((a m : ℕ) → x.adjustments a m ≡ y.adjustments a m) → ((a m : ℕ) → x.day_trades a m ≡ y.day_trades a m) → x ≡ y
-same-amounts x y adjustments day_trades =
-    let same = fun_ext (λ a. fun_ext (adjustments a)) in
-    let same_day = fun_ext (λ a. fun_ext (day_trades a)) in
-    λ i. record { adjustments = same i; day_trades = same_day i }
 
 -- ---- the listed months
 

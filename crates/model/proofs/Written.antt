@@ -16,7 +16,7 @@ use Rattle.model.specs.Limits.{NothingOutside}
 use Rattle.model.specs.Moves.{DayTradesWritten}
 use Rattle.model.specs.Observed.{accounts_of, months_of, trades_of}
 use Rattle.model.specs.Positions.{adjustment_at}
-use Rattle.model.proofs.Cells.{InBook, in_or_out, in-book, outside-book, contracts_on-outside}
+use Rattle.model.proofs.Cells.{InBook, in_or_out, in-book, outside-book, side-outside}
 use Rattle.model.proofs.Dealt.{Fits, accounts-few, session-fits}
 use Rattle.model.proofs.Sizes.{months-few}
 
@@ -30,7 +30,7 @@ module _ (n k a m : ℕ) (out : (a < n) × (m < k) → ⊥) where
   unfolding contract_prices
   prices-outside side [] f = refl
   prices-outside side (t ∷ ts) f =
-      rw (contracts_on-outside side n k a m t (party-fits side t f.0) f.0.month out, prices-outside side ts f.1) refl
+      rw (side-outside side n k a m t (party-fits side t f.0) f.0.month out, prices-outside side ts f.1) refl
 
   day-trade-outside : (ts : List Trade) → AllByRecursion (Fits n k) ts → day_trade a m ts ≡ pos 0
   unfolding firsts

@@ -1,7 +1,7 @@
 -- What a close writes: the amounts of each account in each month, and where they stand in an array.
-use Rattle.std.specs.Prelude.{ℕ, zero, suc, ◌+◌, ◌*◌, cond, ◌&&◌, List, [], ◌++◌, map, length, drop, ℤ, pos}
-use Rattle.std.specs.List.{range_with_len}
+use Rattle.std.specs.Prelude.{ℕ, ◌*◌, cond, ◌&&◌, List, length, ℤ, pos}
 use Rattle.amounts.specs.DayTrades.{day_trade}
+use Rattle.amounts.specs.Rows as rows
 use Rattle.model.specs.World.{World}
 use Rattle.model.specs.History.{History, Amounts}
 use Rattle.model.specs.Observed.{accounts_of, months_of, is_account, is_listed, trades_of}
@@ -22,11 +22,6 @@ amounts_at_close w h = record {
 abbrev pub cells_of : History → ℕ
 cells_of h = length (accounts_of h) * length (months_of h)
 
--- the rows of n accounts from one on, each with the amounts of k months
-abbrev pub rows_of : ℕ → ℕ → (ℕ → ℕ → ℤ) → ℕ → List ℤ
-rows_of k zero amount a = []
-rows_of k (suc n) amount a = map (amount a) (range_with_len 0 k) ++ rows_of k n amount (a + 1)
-
 -- an array after a close: with k months the amount of account a in month m stands at a × k + m; the rest of the array is as before
 abbrev pub written_to : History → (ℕ → ℕ → ℤ) → List ℤ → List ℤ
-written_to h amount old = rows_of (length (months_of h)) (length (accounts_of h)) amount 0 ++ drop (cells_of h) old
+written_to h amount old = rows.written_to (length (accounts_of h)) (length (months_of h)) amount old

@@ -3,7 +3,10 @@ use Rattle.std.specs.Prelude.{◌≡◌, ℕ, ◌+◌, ◌*◌, ◌^◌, ◌<◌
 use Rattle.std.specs.List.{AllByRecursion, list_any}
 use Rattle.calendar.specs.declared.kind.DayKind.TheVariants.{ClosedDay}
 use Rattle.calendar.specs.Kinds.{is_session}
+use Rattle.dates.specs.declared.TheConstants.{LAST_DAY}
+use Rattle.interest.specs.declared.di_rates.TheConstants.{MAX_DI_RATE}
 use Rattle.rates.specs.Meanings.{rates_of}
+use Rattle.amounts.specs.declared.trades.TheConstants.{MAX_ACCOUNTS, MAX_MONTHS, MAX_POSITION}
 use Rattle.amounts.specs.Trades.{Limited}
 use Rattle.model.specs.Accounts.{account_indices, month_indices}
 use Rattle.model.specs.History.{History, Amounts, trade_made, amounts_written, gather}
@@ -15,11 +18,11 @@ use Rattle.model.specs.World.{World}
 
 -- at most 32 accounts and 16 months
 abbrev pub TablesLimited : Type 0
-TablesLimited = (w : World) (h : History) → Lawful w h → (length (accounts_of h) ≤ 32) × (length (months_of h) ≤ 16)
+TablesLimited = (w : World) (h : History) → Lawful w h → (length (accounts_of h) ≤ MAX_ACCOUNTS) × (length (months_of h) ≤ MAX_MONTHS)
 
 -- no position passes 500,000 contracts, bought or sold
 abbrev pub PositionsLimited : Type 0
-PositionsLimited = (w : World) (h : History) (a m : ℕ) → Lawful w h → unsigned_abs (position_of w h a m) ≤ 500000
+PositionsLimited = (w : World) (h : History) (a m : ℕ) → Lawful w h → unsigned_abs (position_of w h a m) ≤ MAX_POSITION
 
 -- every session has at most 256 trades, of at most 20,000 contracts each
 abbrev pub TradesLimited : Type 0
@@ -58,7 +61,7 @@ NothingOutside = (w : World) (h : History) → Lawful w h
 
 -- no rate is over 99,999,999
 abbrev pub RatesLimited : (ℕ → Option ℕ) → Type 0
-RatesLimited rates = (d r : ℕ) → rates d ≡ Some r → r ≤ 99999999
+RatesLimited rates = (d r : ℕ) → rates d ≡ Some r → r ≤ MAX_DI_RATE
 
 -- where no rate of the source is over 99,999,999, none ever is
 abbrev pub RatesStayLimited : Type 0
@@ -94,7 +97,7 @@ ClosesFew = (w : World) (h : History) → Lawful w h → length (gather amounts_
 
 -- on a calendar, which is closed from day 36,525 on, due and paid fit in 64 bits
 abbrev pub DuesFit : Type 0
-DuesFit = (w : World) (h : History) (a : ℕ) → RatesLimited (rates_of w.source) → ((d : ℕ) → 36524 < d → w.kinds d ≡ ClosedDay) → Lawful w h
+DuesFit = (w : World) (h : History) (a : ℕ) → RatesLimited (rates_of w.source) → ((d : ℕ) → LAST_DAY < d → w.kinds d ≡ ClosedDay) → Lawful w h
     → unsigned_abs (paid_of h a) + unsigned_abs (due_of h a) < 2 ^ 63
 
 -- all of them
