@@ -8,7 +8,6 @@ use Rattle.calendar.specs.declared.kind.DayKind.{DayKind}
 use Rattle.calendar.specs.Spans.{expiry_of, reserve_days}
 use Rattle.pricing.specs.Pricing.{expiry_day, days_to}
 use Rattle.rows.specs.Rows.{first_row, numbered}
-use Rattle.model.specs.Accounts.{is_among}
 use Rattle.model.specs.History.{History, Listed, Opened, Marked, Closed}
 use Rattle.model.specs.Lawful.{Lawful}
 use Rattle.model.specs.Observed.{months_of, open_session}

@@ -11,7 +11,7 @@ ghost use Rattle.book.specs.Changes.{changed_at, after_trade};
 
 use super::Ledger;
 use crate::references::Ticket;
-use amounts::{CELLS, MAX_CONTRACTS, MAX_POSITION, MAX_TRADES, Trade, place};
+use amounts::{CELLS, MAX_CONTRACTS, MAX_POSITION, Trade, place};
 use dates::month_of;
 use interest::{MAX_DEALT_RATE, MAX_RESERVE_DAYS, on_tick, trade_price};
 use model::Order;
@@ -143,7 +143,7 @@ impl Ledger {
         if self.passes_limit(order) {
             return Err(Refusal::PositionLimit);
         }
-        if self.trades.len() >= MAX_TRADES {
+        if self.trades.is_full() {
             return Err(Refusal::SessionFull);
         }
         Ok(())
