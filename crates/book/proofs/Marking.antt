@@ -30,7 +30,7 @@ pub month-count : (h : History) (w : World) (rows : List MonthRow) → KeepsMont
 month-count h w rows k = sym (length_map (λ (row : MonthRow). row.number) rows) ∙ ap length k.numbers
 
 -- a month that is listed has a row
-row_at : (rows : List MonthRow) (m : ℕ) → m < length rows → (row : MonthRow) × (slice_get rows m ≡ Some row)
+pub row_at : (rows : List MonthRow) (m : ℕ) → m < length rows → (row : MonthRow) × (slice_get rows m ≡ Some row)
 row_at [] m listed = absurd (omega arith)
 row_at (row ∷ rows) zero listed = (row, refl)
 row_at (row ∷ rows) (suc m) listed = row_at rows m (omega arith)
