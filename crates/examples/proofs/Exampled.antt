@@ -18,7 +18,7 @@ use Rattle.model.specs.Positions.{adjustment_at}
 use Rattle.model.specs.Rows.{SessionReference, cells_of, close_rows}
 use Rattle.model.specs.Lawful.{Allowed, Closes, InBook, Lawful}
 use Rattle.model.proofs.Monthly.{december}
-use Rattle.model.specs.Examples.{table, rows_of, run_world, run_history, RunHolds, RunSeen, weekdays, full_history, FullHolds}
+use Rattle.examples.specs.Examples.{table, rows_of, run_world, run_history, RunHolds, RunSeen, weekdays, full_history, FullHolds}
 
 -- what the proofs compute with
 unfoldable pub figures : Unit {0}

@@ -1,7 +1,7 @@
 -- The rows at their edges, computed.
 use Rattle.std.proofs.Common.{refl}
-use Rattle.model.specs.Edges.{EdgesHold}
-use Rattle.model.proofs.Exampled.{figures}
+use Rattle.examples.specs.Edges.{EdgesHold}
+use Rattle.examples.proofs.Exampled.{figures}
 use Rattle.model.proofs.Monthly.{december, december-31, january, january-4}
 
 pub edges-hold : EdgesHold

@@ -8,10 +8,10 @@ use Rattle.model.specs.Accounts.{account_indices}
 use Rattle.model.specs.Balance.{Balanced}
 use Rattle.model.specs.Positions.{written_for}
 use Rattle.model.specs.Lawful.{Lawful}
-use Rattle.model.specs.Examples.{both}
+use Rattle.examples.specs.Examples.{both}
 use Rattle.model.specs.Value.{Valued}
-use Rattle.model.specs.Wrong.{wrong_world, wrong_history, right_history, wrong_amounts, book_of, OutsideTolerance, WrongCaught}
-use Rattle.model.proofs.Exampled.{figures, paper, closes}
+use Rattle.examples.specs.Wrong.{wrong_world, wrong_history, right_history, wrong_amounts, book_of, OutsideTolerance, WrongCaught}
+use Rattle.examples.proofs.Exampled.{figures, paper, closes}
 use Rattle.model.proofs.Monthly.{december, january}
 
 -- up to the first close, the newest event first

@@ -1,9 +1,9 @@
 -- The busy history is lawful, event by event, and comes to what is said of it.
 use Rattle.std.proofs.Common.{drop, refl, inr, lit≤}
 use Rattle.model.specs.Lawful.{Lawful}
-use Rattle.model.specs.Busy.{busy_history, order_history, JanuarySeen, BusyHolds}
-use Rattle.model.specs.Examples.{run_world}
-use Rattle.model.proofs.Exampled.{figures, paper, closes}
+use Rattle.examples.specs.Busy.{busy_history, order_history, JanuarySeen, BusyHolds}
+use Rattle.examples.specs.Examples.{run_world}
+use Rattle.examples.proofs.Exampled.{figures, paper, closes}
 use Rattle.model.proofs.Monthly.{december, december-31}
 
 -- up to the first close, the newest event first

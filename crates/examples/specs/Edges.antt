@@ -7,7 +7,7 @@ use Rattle.refusal.specs.declared.Refusal.{Refusal}
 use Rattle.refusal.specs.declared.Refusal.TheVariants.{NotCurrent, NoSuchIndex, Expired, SameSides, BadQuantity, BadRate, TooFar, PositionLimit, SessionFull, BadPrice, SessionOpen, NoSession, Unpaid, Unmarked, MissingRate, ArrayShort, NoLaterSession, TableFull, AlreadyThere, NoExpiry, OutsideHorizon, HasRate, RateTooHigh, BadPeriod, ArbitrationFull}
 use Rattle.refusal.specs.Refusals.{Row, first_row}
 use Rattle.amounts.specs.declared.trades.Trade.{Trade}
-use Rattle.model.specs.Examples.{weekdays, client, both}
+use Rattle.examples.specs.Examples.{weekdays, client, both}
 use Rattle.model.specs.History.{History, Entered, Listed, Published, Arbitrated, Opened, Traded, Marked, Closed, Paid}
 use Rattle.model.specs.Observed.{accounts_of, months_of, settlement_price}
 use Rattle.model.specs.Rows.{SessionReference, enter_rows, list_rows, publish_rows, arbitrate_rows, open_rows, trade_rows, mark_rows, close_rows, pay_rows, position_rows, balance_rows, close_refused, pay_refused}

@@ -1,6 +1,6 @@
 -- A lawful history in which more happens: day trades, an account and a month that come late, an arbitrated rate, and an expiry beside a month that goes on, with a session after it.
 use Rattle.std.specs.Prelude.{◌≡◌, List, [], ◌∷◌, map, drop, ℤ, pos, neg_ℤ, Some}
-use Rattle.model.specs.Examples.{client, table, rows_of, run_world}
+use Rattle.examples.specs.Examples.{client, table, rows_of, run_world}
 use Rattle.model.specs.History.{History, Entered, Listed, Published, Arbitrated, Opened, Traded, Marked, Closed, Paid, written, gather}
 use Rattle.model.specs.Closing.{Seen}
 use Rattle.model.specs.Lawful.{Lawful}

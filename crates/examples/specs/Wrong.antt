@@ -3,7 +3,7 @@ use Rattle.std.specs.Prelude.{◌<◌, List, [], ◌∷◌, ℤ, pos, neg_ℤ}
 use Rattle.std.specs.List.{AllByRecursion}
 use Rattle.calendar.specs.declared.kind.DayKind.TheVariants.{ReserveDay}
 use Rattle.model.specs.Balance.{Balanced}
-use Rattle.model.specs.Examples.{book_over, client, deal, both}
+use Rattle.examples.specs.Examples.{book_over, client, deal, both}
 use Rattle.model.specs.History.{History, Entered, Listed, Published, Opened, Traded, Marked, Closed, Paid}
 use Rattle.model.specs.Lawful.{Lawful}
 use Rattle.model.specs.Value.{apart_of, tolerance_of, Valued}

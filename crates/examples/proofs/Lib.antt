@@ -1,0 +1,4 @@
+pub mod Busied
+pub mod Caught
+pub mod Edged
+pub mod Exampled

@@ -1,0 +1,4 @@
+pub mod Examples
+pub mod Busy
+pub mod Wrong
+pub mod Edges
