@@ -1,4 +1,4 @@
-pub mod Busied
-pub mod Caught
-pub mod Edged
-pub mod Exampled
+mod FullTolerance
+mod LawfulSteps
+mod MonthNumbers
+mod MonthToItsEnd

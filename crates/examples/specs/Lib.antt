@@ -1,4 +1,3 @@
-pub mod Examples
-pub mod Busy
-pub mod Wrong
-pub mod Edges
+pub mod Books
+pub mod FullTolerance
+pub mod MonthToItsEnd

@@ -1,7 +1,6 @@
 use Rattle.examples.proofs.examples_hold.Goals as goal
-use Rattle.examples.proofs.Busied.{busy-holds}
-use Rattle.examples.proofs.Caught.{wrong-caught}
-use Rattle.examples.proofs.Exampled.{run_holds, run-seen, full-holds}
+use Rattle.examples.proofs.FullTolerance.{full-tolerance}
+use Rattle.examples.proofs.MonthToItsEnd.{month-to-its-end}
 
 pub returns : goal.returns
-returns c = record { run = run_holds; seen = run-seen; busy = busy-holds; full = full-holds; wrong = wrong-caught }
+returns c = record { month = month-to-its-end; full_tolerance = full-tolerance }

@@ -1,0 +1,77 @@
+-- What the example histories are made of: worlds, accounts, references, orders and trades, and amounts by rows.
+use Rattle.std.specs.Prelude.{ℕ, List, [], ◌∷◌, map, length, ℤ, pos, neg_ℤ, Some, None, Option, slice_index_or}
+use Rattle.std.specs.List.{range_with_len}
+use Rattle.amounts.specs.declared.trades.Trade.{Trade}
+use Rattle.calendar.specs.declared.kind.DayKind.{DayKind}
+use Rattle.calendar.specs.declared.rule.Exception.{Exception}
+use Rattle.calendar.specs.Kinds.{ruled}
+use Rattle.rates.specs.declared.entry.DayRate.{DayRate}
+use Rattle.rates.specs.Meanings.{Meaning, bare, under}
+use Rattle.model.specs.declared.calls.Account.{Account}
+use Rattle.model.specs.declared.calls.Order.{Order}
+use Rattle.model.specs.History.{History, Amounts, Entered}
+use Rattle.model.specs.Observed.{accounts_of, months_of, trade_at}
+use Rattle.model.specs.References.{SessionReference}
+use Rattle.model.specs.World.{World}
+
+-- ---- worlds
+
+-- a day and its rate in millionths of a percent
+abbrev pub day_rate : ℕ → ℕ → DayRate
+day_rate day rate = record { day = day; rate = rate }
+
+-- a source that publishes the rates of days 9,860 to 9,869
+abbrev pub ten_days : (ℕ → Option ℕ) → Meaning
+ten_days published = bare (record { first = 9860; count = 10 }) published
+
+-- such a source without a rate yet, under a layer without a day
+abbrev pub no_rates : Meaning
+no_rates = under [] (ten_days (λ _. None))
+
+-- a book from 9,860 on, Wednesday 30 December 2026
+abbrev pub book_on : (ℕ → DayKind) → Meaning → World
+book_on kinds source = record { number = 1; start = 9860; kinds = kinds; source = source }
+
+-- the same, on a rule calendar with these exceptions and a source without a rate yet
+abbrev pub book_with : List Exception → World
+book_with exceptions = book_on (ruled exceptions) no_rates
+
+-- Monday to Friday are sessions
+abbrev pub weekdays : World
+weekdays = book_with []
+
+-- ---- accounts, references, orders and trades
+
+-- an account of a client
+abbrev pub client : ℕ → Account
+client number = record { client = number; participant = 1; member = 1 }
+
+-- the clients below n were entered, client 0 last
+abbrev pub clients : ℕ → History
+clients n = map (λ i. Entered (client i)) (range_with_len 0 n)
+
+-- a reference to a session of the book
+abbrev pub of_day : ℕ → SessionReference
+of_day day = record { number = 1; day = day }
+
+-- an order: buyer and seller in rate, month, rate, quantity
+abbrev pub order : ℕ → ℕ → ℕ → ℕ → ℕ → Order
+order buyer seller month rate quantity = record { buyer = buyer; seller = seller; month = month; rate = rate; quantity = quantity }
+
+-- account 0 bought in rate from account 1, in month 0: rate, contracts, price
+abbrev pub deal : ℕ → ℕ → ℕ → Trade
+deal rate contracts price = trade_at (order 0 1 0 rate contracts) price
+
+-- ---- amounts
+
+-- amounts by rows, one for each account, with a column for each month; 0 outside
+abbrev pub table : List (List ℤ) → ℕ → ℕ → ℤ
+table rows a m = slice_index_or (slice_index_or rows a []) m (pos 0)
+
+-- the amounts of the accounts and months of the book, in such rows
+abbrev pub rows_in : History → (ℕ → ℕ → ℤ) → List (List ℤ)
+rows_in h amount = map (λ a. map (amount a) (range_with_len 0 (length (months_of h)))) (range_with_len 0 (length (accounts_of h)))
+
+-- a close of two accounts in one month, where account 1 gets x and account 0 the opposite, with no day trades
+abbrev pub opposites : ℤ → Amounts
+opposites x = record { adjustments = table ((neg_ℤ x ∷ []) ∷ (x ∷ []) ∷ []); day_trades = table ((pos 0 ∷ []) ∷ (pos 0 ∷ []) ∷ []) }
