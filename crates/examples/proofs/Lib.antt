@@ -1,4 +1,7 @@
+mod Edges
 mod FullTolerance
 mod LawfulSteps
 mod MonthNumbers
 mod MonthToItsEnd
+mod SeveralMonths
+mod WrongBooks

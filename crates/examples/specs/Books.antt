@@ -9,7 +9,7 @@ use Rattle.rates.specs.declared.entry.DayRate.{DayRate}
 use Rattle.rates.specs.Meanings.{Meaning, bare, under}
 use Rattle.model.specs.declared.calls.Account.{Account}
 use Rattle.model.specs.declared.calls.Order.{Order}
-use Rattle.model.specs.History.{History, Amounts, Entered}
+use Rattle.model.specs.History.{History, Amounts, Entered, Listed, Opened, Marked, Closed}
 use Rattle.model.specs.Observed.{accounts_of, months_of, trade_at}
 use Rattle.model.specs.References.{SessionReference}
 use Rattle.model.specs.World.{World}
@@ -75,3 +75,17 @@ rows_in h amount = map (λ a. map (amount a) (range_with_len 0 (length (months_o
 -- a close of two accounts in one month, where account 1 gets x and account 0 the opposite, with no day trades
 abbrev pub opposites : ℤ → Amounts
 opposites x = record { adjustments = table ((neg_ℤ x ∷ []) ∷ (x ∷ []) ∷ []); day_trades = table ((pos 0 ∷ []) ∷ (pos 0 ∷ []) ∷ []) }
+
+-- a close that wrote only zeros
+abbrev pub nothing : Amounts
+nothing = opposites (pos 0)
+
+-- ---- a session
+
+-- three accounts, and the session of 9,860 with February and March 2027, which expire on 9,893 and 9,921
+abbrev pub in_session : History
+in_session = Opened 9860 ∷ Listed 326 ∷ Listed 325 ∷ clients 3
+
+-- that session closed, with both months marked; nothing was traded
+abbrev pub after_close : History
+after_close = Closed nothing ∷ Marked 1 9800000 ∷ Marked 0 9900000 ∷ in_session

@@ -1,3 +1,6 @@
 pub mod Books
+pub mod Edges
 pub mod FullTolerance
 pub mod MonthToItsEnd
+pub mod SeveralMonths
+pub mod WrongBooks

@@ -1,11 +1,17 @@
 // Example histories with their figures, calls at their edges, and wrong books: that the definitions of
 // the model say something.
 #![tactic(auto)]
+ghost use Rattle.examples.specs.Edges.{EdgesHold};
 ghost use Rattle.examples.specs.FullTolerance.{FullTolerance};
 ghost use Rattle.examples.specs.MonthToItsEnd.{MonthToItsEnd};
+ghost use Rattle.examples.specs.SeveralMonths.{SeveralMonths};
+ghost use Rattle.examples.specs.WrongBooks.{WrongBooks};
 
 /// Lawful histories with their figures.
 pub fn examples_hold()
     ensures month { MonthToItsEnd }
-    ensures full_tolerance { FullTolerance }
+    ensures months { SeveralMonths }
+    ensures tolerance { FullTolerance }
+    ensures wrong { WrongBooks }
+    ensures edges { EdgesHold }
 {}

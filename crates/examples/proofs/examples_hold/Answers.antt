@@ -1,6 +1,9 @@
 use Rattle.examples.proofs.examples_hold.Goals as goal
+use Rattle.examples.proofs.Edges.{edges-hold}
 use Rattle.examples.proofs.FullTolerance.{full-tolerance}
 use Rattle.examples.proofs.MonthToItsEnd.{month-to-its-end}
+use Rattle.examples.proofs.SeveralMonths.{several-months}
+use Rattle.examples.proofs.WrongBooks.{wrong-books}
 
 pub returns : goal.returns
-returns c = record { month = month-to-its-end; full_tolerance = full-tolerance }
+returns c = record { month = month-to-its-end; months = several-months; tolerance = full-tolerance; wrong = wrong-books; edges = edges-hold }
