@@ -1,7 +1,9 @@
+mod Answers
 mod Edges
 mod FullTolerance
 mod LawfulSteps
 mod MonthNumbers
 mod MonthToItsEnd
 mod SeveralMonths
+mod TwoLayers
 mod WrongBooks

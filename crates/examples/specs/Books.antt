@@ -1,12 +1,14 @@
 -- What the example histories are made of: worlds, accounts, references, orders and trades, and amounts by rows.
-use Rattle.std.specs.Prelude.{ℕ, List, [], ◌∷◌, map, length, ℤ, pos, neg_ℤ, Some, None, Option, slice_index_or}
+use Rattle.std.specs.Prelude.{◌≡◌, ℕ, List, [], ◌∷◌, map, length, ℤ, pos, neg_ℤ, cond, Some, None, Option, ◌==◌, slice_index_or}
 use Rattle.std.specs.List.{range_with_len}
 use Rattle.amounts.specs.declared.trades.Trade.{Trade}
 use Rattle.calendar.specs.declared.kind.DayKind.{DayKind}
+use Rattle.calendar.specs.declared.kind.DayKind.TheVariants.{ClosedDay, SessionDay}
 use Rattle.calendar.specs.declared.rule.Exception.{Exception}
 use Rattle.calendar.specs.Kinds.{ruled}
 use Rattle.rates.specs.declared.entry.DayRate.{DayRate}
 use Rattle.rates.specs.Meanings.{Meaning, bare, under}
+use Rattle.rows.specs.Rows.{Reason, Row, numbered, first_row}
 use Rattle.model.specs.declared.calls.Account.{Account}
 use Rattle.model.specs.declared.calls.Order.{Order}
 use Rattle.model.specs.History.{History, Amounts, Entered, Listed, Opened, Marked, Closed}
@@ -39,6 +41,10 @@ book_with exceptions = book_on (ruled exceptions) no_rates
 -- Monday to Friday are sessions
 abbrev pub weekdays : World
 weekdays = book_with []
+
+-- one day is a session, and all others are closed
+abbrev pub only_session : ℕ → World
+only_session day = book_on (λ d. cond (d == day) SessionDay ClosedDay) no_rates
 
 -- ---- accounts, references, orders and trades
 
@@ -89,3 +95,21 @@ in_session = Opened 9860 ∷ Listed 326 ∷ Listed 325 ∷ clients 3
 -- that session closed, with both months marked; nothing was traded
 abbrev pub after_close : History
 after_close = Closed nothing ∷ Marked 1 9800000 ∷ Marked 0 9900000 ∷ in_session
+
+-- ---- lists of examples
+
+-- what stands first is what stands beside it
+abbrev pub Same : {X : Type 0} → List (X × X) → Type 0
+Same cases = map (λ c. c.0) cases ≡ map (λ c. c.1) cases
+
+-- each of the tables refuses for the reason beside it, or for none
+abbrev pub Refuse : List (List Row × Option Reason) → Type 0
+Refuse cases = map (λ c. first_row c.0) cases ≡ map (λ c. c.1) cases
+
+-- a refusal of this number
+abbrev pub refusal : ℕ → Option Reason
+refusal number = Some (numbered number)
+
+-- the same, which names a value
+abbrev pub refusal_with : ℕ → ℕ → Option Reason
+refusal_with number value = Some (record { number = number; values = value ∷ [] })

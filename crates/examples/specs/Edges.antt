@@ -1,33 +1,16 @@
 -- The rows of each call at their edges: the last call that passes and the first that is refused, by which reason, and what comes back with it.
-use Rattle.std.specs.Prelude.{◌≡◌, ℕ, List, [], ◌∷◌, ◌++◌, map, replicate, Some, None, Option, cond, ◌==◌}
+use Rattle.std.specs.Prelude.{◌≡◌, ℕ, List, [], ◌∷◌, ◌++◌, map, replicate, Some, None, Option}
 use Rattle.std.specs.List.{range_with_len}
-use Rattle.calendar.specs.declared.kind.DayKind.TheVariants.{ClosedDay, SessionDay}
 use Rattle.calendar.specs.Kinds.{ruled}
 use Rattle.rates.specs.Meanings.{Meaning, bare, under}
-use Rattle.rows.specs.Rows.{Reason, Row, numbered, first_row}
-use Rattle.examples.specs.Books.{day_rate, ten_days, no_rates, book_on, weekdays, client, clients, of_day, order, nothing, in_session, after_close}
+use Rattle.rows.specs.Rows.{Reason, Row, numbered}
+use Rattle.examples.specs.Books.{day_rate, ten_days, book_on, weekdays, only_session, client, clients, of_day, order, nothing, in_session, after_close, Same, Refuse, refusal, refusal_with}
 use Rattle.model.specs.declared.calls.Order.{Order}
 use Rattle.model.specs.History.{History, Entered, Listed, Published, Arbitrated, Opened, Traded, Marked, Closed, Paid}
 use Rattle.model.specs.Observed.{accounts_of, months_of, settlement_price, trade_at}
 use Rattle.model.specs.References.{SessionReference}
 use Rattle.model.specs.Rows.{enter_rows, list_rows, publish_rows, arbitrate_rows, open_rows, trade_rows, mark_rows, close_rows, pay_rows, position_rows, balance_rows, close_refused, pay_refused}
 use Rattle.model.specs.World.{World}
-
--- what stands first is what stands beside it
-abbrev pub Same : {X : Type 0} → List (X × X) → Type 0
-Same cases = map (λ c. c.0) cases ≡ map (λ c. c.1) cases
-
--- each of the tables refuses for the reason beside it, or for none
-abbrev pub Refuse : List (List Row × Option Reason) → Type 0
-Refuse cases = map (λ c. first_row c.0) cases ≡ map (λ c. c.1) cases
-
--- a refusal of this number
-abbrev pub refusal : ℕ → Option Reason
-refusal number = Some (numbered number)
-
--- the same, which names a value
-abbrev pub refusal_with : ℕ → ℕ → Option Reason
-refusal_with number value = Some (record { number = number; values = value ∷ [] })
 
 -- a source under a layer that has the first n days of 9,840 to 9,869
 abbrev pub days_arbitrated : ℕ → Meaning
@@ -41,10 +24,6 @@ layer_with n = book_on (ruled []) (days_arbitrated n)
 -- a book on a source that publishes the rate of 10 % on each day
 abbrev pub all_rates : World
 all_rates = book_on (ruled []) (under [] (ten_days (λ _. Some 10000000)))
-
--- one day is a session, and all others are closed
-abbrev pub only_session : ℕ → World
-only_session day = book_on (λ d. cond (d == day) SessionDay ClosedDay) no_rates
 
 -- three accounts, May 2033 as month 0, the given month as month 1, and a session of this day
 abbrev pub session_on : ℕ → ℕ → History

@@ -1,10 +1,12 @@
 // Example histories with their figures, calls at their edges, and wrong books: that the definitions of
 // the model say something.
 #![tactic(auto)]
+ghost use Rattle.examples.specs.Answers.{AnswersHold};
 ghost use Rattle.examples.specs.Edges.{EdgesHold};
 ghost use Rattle.examples.specs.FullTolerance.{FullTolerance};
 ghost use Rattle.examples.specs.MonthToItsEnd.{MonthToItsEnd};
 ghost use Rattle.examples.specs.SeveralMonths.{SeveralMonths};
+ghost use Rattle.examples.specs.TwoLayers.{TwoLayers};
 ghost use Rattle.examples.specs.WrongBooks.{WrongBooks};
 
 /// Lawful histories with their figures.
@@ -13,5 +15,7 @@ pub fn examples_hold()
     ensures months { SeveralMonths }
     ensures tolerance { FullTolerance }
     ensures wrong { WrongBooks }
+    ensures layers { TwoLayers }
+    ensures answers { AnswersHold }
     ensures edges { EdgesHold }
 {}
