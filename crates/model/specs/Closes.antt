@@ -1,6 +1,6 @@
 -- What a close writes: the amounts of each account in each month, and where they stand in an array.
-use Rattle.std.specs.Prelude.{ℕ, zero, suc, ◌+◌, ◌*◌, Bool, cond, ◌&&◌, List, [], ◌++◌, map, length, drop, ℤ, pos}
-use Rattle.std.specs.List.{range_with_len}
+use Rattle.std.specs.Prelude.{ℕ, ◌*◌, cond, ◌&&◌, List, ◌++◌, map, length, drop, ℤ, pos}
+use Rattle.std.specs.List.{range_with_len, flat_map}
 use Rattle.amounts.specs.DayTrades.{day_trade}
 use Rattle.model.specs.World.{World}
 use Rattle.model.specs.History.{History, Amounts}
@@ -22,11 +22,10 @@ amounts_at_close w h = record {
 abbrev pub cells_of : History → ℕ
 cells_of h = length (accounts_of h) * length (months_of h)
 
--- the rows of n accounts from one on, each with the amounts of k months
-abbrev pub rows_of : ℕ → ℕ → (ℕ → ℕ → ℤ) → ℕ → List ℤ
-rows_of k zero amount a = []
-rows_of k (suc n) amount a = map (amount a) (range_with_len 0 k) ++ rows_of k n amount (a + 1)
+-- the rows of the first n accounts, one after another, each with the amounts of the first k months
+abbrev pub rows_of : ℕ → ℕ → (ℕ → ℕ → ℤ) → List ℤ
+rows_of n k amount = flat_map (λ a. map (amount a) (range_with_len 0 k)) (range_with_len 0 n)
 
 -- an array after a close: with k months the amount of account a in month m stands at a × k + m; the rest of the array is as before
 abbrev pub written_to : History → (ℕ → ℕ → ℤ) → List ℤ → List ℤ
-written_to h amount old = rows_of (length (months_of h)) (length (accounts_of h)) amount 0 ++ drop (cells_of h) old
+written_to h amount old = rows_of (length (accounts_of h)) (length (months_of h)) amount ++ drop (cells_of h) old

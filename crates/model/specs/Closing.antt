@@ -1,12 +1,16 @@
 -- What a close can rely on: laws of the session that is open.
 use Rattle.std.specs.Prelude.{◌≡◌, ℕ, ◌≤◌, ◌∷◌, length, pos, ◌-ℤ◌, Some, unsigned_abs}
+use Rattle.std.specs.List.{range_with_len}
+use Rattle.calendar.specs.declared.span.TheConstants.{MAX_SESSION_SEARCH_DAYS}
 use Rattle.amounts.specs.Amounts.{adjustment_of}
+use Rattle.amounts.specs.Sums.{total}
 use Rattle.amounts.specs.Trades.{position_change}
+use Rattle.model.specs.Closes.{amounts_at_close}
 use Rattle.model.specs.History.{History, Amounts, Closed}
 use Rattle.model.specs.Lawful.{Lawful}
 use Rattle.model.specs.Limits.{RatesLimited}
-use Rattle.model.specs.Observed.{rate_on, open_session, trades_of, settlement_price}
-use Rattle.model.specs.Positions.{position_of, carried_of, corrected_since, adjustment_at, due_of}
+use Rattle.model.specs.Observed.{months_of, rate_on, session_day, open_session, trades_of, settlement_price}
+use Rattle.model.specs.Positions.{position_of, carried_of, corrected_since, adjustment_at, written_for, due_of}
 use Rattle.model.specs.Sessions.{sessions_of, latest_closed, newest_price, gap_since}
 use Rattle.model.specs.World.{World}
 
@@ -19,21 +23,26 @@ CarriedBefore = (w : World) (h : History) (d a m : ℕ) → Lawful w h → open_
 abbrev pub CarriedLimited : Type 0
 CarriedLimited = (w : World) (h : History) (a m : ℕ) → Lawful w h → unsigned_abs (carried_of w h a m) ≤ 500000
 
--- the gap since the latest closed session has at most 60 reserve days
+-- from the latest closed session to the latest session there are at most 60 reserve days
 abbrev pub GapShort : Type 0
-GapShort = (w : World) (h : History) (d : ℕ) → Lawful w h → open_session h ≡ Some d → length (gap_since w.kinds (latest_closed w h) d) ≤ 60
+GapShort = (w : World) (h : History) → Lawful w h → length (gap_since w.kinds (latest_closed w h) (session_day h)) ≤ MAX_SESSION_SEARCH_DAYS
 
 -- so a corrected price is at most 13,305,340, where no rate is over 99,999,999
 abbrev pub CorrectedLimited : Type 0
-CorrectedLimited = (w : World) (h : History) (d m : ℕ) → Lawful w h → open_session h ≡ Some d → RatesLimited (rate_on w h)
-    → corrected_since w.kinds (rate_on w h) (latest_closed w h) (newest_price m (sessions_of w h)) d ≤ 13305340
+CorrectedLimited = (w : World) (h : History) (m : ℕ) → Lawful w h → RatesLimited (rate_on w h)
+    → corrected_since w.kinds (rate_on w h) (latest_closed w h) (newest_price m (sessions_of w h)) (session_day h) ≤ 13305340
 
 -- the adjustment of the rules, on what is known of an account in a month at the close
 abbrev pub AdjustmentSeen : Type 0
 AdjustmentSeen = (w : World) (h : History) (d a m : ℕ) → Lawful w h → open_session h ≡ Some d
     → adjustment_at w h a m
     ≡ adjustment_of a m (settlement_price w h m) (trades_of h) (position_of w h a m -ℤ position_change a m (trades_of h))
-    (corrected_since w.kinds (rate_on w h) (latest_closed w h) (newest_price m (sessions_of w h)) d)
+    (corrected_since w.kinds (rate_on w h) (latest_closed w h) (newest_price m (sessions_of w h)) (session_day h))
+
+-- the adjustments of an account are those of the listed months
+abbrev pub ListedWritten : Type 0
+ListedWritten = (w : World) (h : History) (a : ℕ) → Lawful w h
+    → written_for a (amounts_at_close w h) ≡ total ((amounts_at_close w h).adjustments a) (range_with_len 0 (length (months_of h)))
 
 -- before a close nothing is due
 abbrev pub NothingDue : Type 0
@@ -46,4 +55,5 @@ pub record ClosingHolds : Type 0 where
   pub gap : GapShort
   pub corrected : CorrectedLimited
   pub adjustment : AdjustmentSeen
+  pub listed : ListedWritten
   pub due : NothingDue

@@ -1,6 +1,7 @@
 -- What an import of a sheet comes to, and why a sheet is not written.
-use Rattle.std.specs.Prelude.{◌≡◌, ℕ, ◌+◌, ◌≤◌, Bool, true, false, ◌⊎◌, List, [], ◌∷◌, length, take, drop, Some, None, Option, nat_eq, slice_index}
+use Rattle.std.specs.Prelude.{◌≡◌, ℕ, ◌+◌, ◌≤◌, true, false, ◌⊎◌, List, [], ◌∷◌, length, take, drop, Some, None, Option, nat_eq, slice_index}
 use Rattle.std.specs.List.{list_any}
+use Rattle.std.specs.Option.{option_map}
 use Rattle.rows.specs.Rows.{Reason, Row, numbered, first_row}
 use Rattle.sheet.specs.Codes.{place_in}
 use Rattle.sheet.specs.Faults.{fault_reason, write_reason}
@@ -47,9 +48,13 @@ pub record Import : Type 0 where
   pub stop : Option Stop
   pub history : History
 
+-- the book refuses a line
+abbrev pub book_stop : ℕ → Reason → Stop
+book_stop line reason = record { line = line; reason = reason; layer = layers.Book }
+
 -- the book refuses the line after n others; or, where it does not, what the lines from there on come to
 abbrev pub stopped_or : ℕ → History → Option Reason → Import → Import
-stopped_or n h (Some reason) next = record { taken = n; stop = Some (record { line = n; reason = reason; layer = layers.Book }); history = h }
+stopped_or n h (Some reason) next = record { taken = n; stop = Some (book_stop n reason); history = h }
 stopped_or n h None next = next
 
 -- lines are traded in order after n others, until one is refused
@@ -89,7 +94,7 @@ AllAccepted w h ticket (t ∷ ts) = Allowed (line_rows w h ticket t) × AllAccep
 -- where the book stops: at the first of these lines, after n others, if it is refused; nowhere if it is accepted or there is none
 abbrev pub stop_at : World → History → SessionReference → ℕ → List TradeLine → Option Stop
 stop_at w h ticket n [] = None
-stop_at w h ticket n (t ∷ ts) = (stopped_or n h (first_row (line_rows w h ticket t)) (record { taken = n; stop = None; history = h })).stop
+stop_at w h ticket n (t ∷ ts) = option_map (book_stop n) (first_row (line_rows w h ticket t))
 
 -- the lines before the stop are accepted and make the history, the next is the first that is refused; without a stop all are taken
 pub record InOrder (w : World) (h : History) (ticket : SessionReference) (lines : List TradeLine) (i : Import) : Type 0 where

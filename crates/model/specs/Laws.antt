@@ -2,6 +2,7 @@
 use Rattle.std.specs.Prelude.{◌≡◌, ℕ, ◌+◌, ◌<◌, ◌≤◌, true, false, [], ◌∷◌, ◌++◌, length, pos, is_some, Some, None, nat_eq}
 use Rattle.std.specs.List.{AllByRecursion, list_any}
 use Rattle.calendar.specs.Kinds.{is_session}
+use Rattle.calendar.specs.declared.span.TheConstants.{MAX_SESSION_SEARCH_DAYS}
 use Rattle.calendar.specs.Spans.{reserve_days, First}
 use Rattle.correction.specs.Gaps.{first_unrated}
 use Rattle.pricing.specs.Pricing.{distance}
@@ -19,7 +20,7 @@ use Rattle.model.specs.World.{World}
 abbrev pub SessionsRise : Type 0
 SessionsRise = (w : World) (h : History) (d : ℕ) → Lawful w (Opened d ∷ h)
     → AllByRecursion (λ x. x < d) (opened_days h)
-    × First w.kinds (next_from w.start (latest_opened h)) (next_from w.start (latest_opened h) + 60) (Some d)
+    × First w.kinds (next_from w.start (latest_opened h)) (next_from w.start (latest_opened h) + MAX_SESSION_SEARCH_DAYS) (Some d)
 
 -- a rate once known stays, whatever happens
 abbrev pub RatesStay : Type 0

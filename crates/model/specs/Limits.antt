@@ -3,6 +3,8 @@ use Rattle.std.specs.Prelude.{◌≡◌, ℕ, ◌+◌, ◌*◌, ◌^◌, ◌<◌
 use Rattle.std.specs.List.{AllByRecursion, list_any}
 use Rattle.calendar.specs.declared.kind.DayKind.TheVariants.{ClosedDay}
 use Rattle.calendar.specs.Kinds.{is_session}
+use Rattle.dates.specs.declared.TheConstants.{LAST_DAY}
+use Rattle.interest.specs.declared.di_rates.TheConstants.{MAX_DI_RATE}
 use Rattle.rates.specs.Meanings.{rates_of}
 use Rattle.amounts.specs.Trades.{Limited}
 use Rattle.model.specs.Accounts.{account_indices, month_indices}
@@ -58,7 +60,7 @@ NothingOutside = (w : World) (h : History) → Lawful w h
 
 -- no rate is over 99,999,999
 abbrev pub RatesLimited : (ℕ → Option ℕ) → Type 0
-RatesLimited rates = (d r : ℕ) → rates d ≡ Some r → r ≤ 99999999
+RatesLimited rates = (d r : ℕ) → rates d ≡ Some r → r ≤ MAX_DI_RATE
 
 -- where no rate of the source is over 99,999,999, none ever is
 abbrev pub RatesStayLimited : Type 0
@@ -94,7 +96,7 @@ ClosesFew = (w : World) (h : History) → Lawful w h → length (gather amounts_
 
 -- on a calendar, which is closed from day 36,525 on, due and paid fit in 64 bits
 abbrev pub DuesFit : Type 0
-DuesFit = (w : World) (h : History) (a : ℕ) → RatesLimited (rates_of w.source) → ((d : ℕ) → 36524 < d → w.kinds d ≡ ClosedDay) → Lawful w h
+DuesFit = (w : World) (h : History) (a : ℕ) → RatesLimited (rates_of w.source) → ((d : ℕ) → LAST_DAY < d → w.kinds d ≡ ClosedDay) → Lawful w h
     → unsigned_abs (paid_of h a) + unsigned_abs (due_of h a) < 2 ^ 63
 
 -- all of them

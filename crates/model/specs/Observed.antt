@@ -2,6 +2,7 @@
 use Rattle.std.specs.Prelude.{ℕ, ◌+◌, Bool, cond, ◌&&◌, List, [], ◌∷◌, length, is_some, Some, None, Option, ◌==◌, nat_lt, slice_index}
 use Rattle.std.specs.Option.{unwrap_or}
 use Rattle.calendar.specs.Spans.{first_session}
+use Rattle.calendar.specs.declared.span.TheConstants.{MAX_SESSION_SEARCH_DAYS}
 use Rattle.interest.specs.Price.{trade_price}
 use Rattle.pricing.specs.Pricing.{expiry_day, days_to}
 use Rattle.rates.specs.Meanings.{Meaning, rates_of, published_in, arbitrated_in}
@@ -77,7 +78,7 @@ next_from start (Some latest) = latest + 1
 
 -- the next session, if there is one in 60 days
 abbrev pub next_session : World → History → Option ℕ
-next_session w h = first_session w.kinds (next_from w.start (latest_opened h)) (next_from w.start (latest_opened h) + 60)
+next_session w h = first_session w.kinds (next_from w.start (latest_opened h)) (next_from w.start (latest_opened h) + MAX_SESSION_SEARCH_DAYS)
 
 -- the trades of the latest session, in order of acceptance
 abbrev pub trades_of : History → List Trade

@@ -5,6 +5,7 @@ use Rattle.std.specs.Option.{unwrap_or}
 use Rattle.calendar.specs.Spans.{expiry_of, first_in}
 use Rattle.correction.specs.Gaps.{first_unrated}
 use Rattle.interest.specs.Tick.{on_tick}
+use Rattle.interest.specs.declared.prices.TheConstants.{MAX_DEALT_RATE, MAX_RESERVE_DAYS}
 use Rattle.pricing.specs.Pricing.{distance, days_to}
 use Rattle.rates.specs.declared.entry.DayRate.{DayRate}
 use Rattle.rates.specs.Publishing as sources
@@ -79,8 +80,8 @@ trade_rows w h ticket o =
     ∷ expired_row w h o.month
     ∷ ((o.buyer == o.seller), numbered 4)
     ∷ (o.quantity == 0 || nat_lt 20000 o.quantity, numbered 5)
-    ∷ (nat_lt 99999 o.rate || not (on_tick o.rate (distance (session_day h) (month_at h o.month))), numbered 6)
-    ∷ (nat_lt 2520 (days_to w.kinds (session_day h) (month_at h o.month)), numbered 7)
+    ∷ (nat_lt MAX_DEALT_RATE o.rate || not (on_tick o.rate (distance (session_day h) (month_at h o.month))), numbered 6)
+    ∷ (nat_lt MAX_RESERVE_DAYS (days_to w.kinds (session_day h) (month_at h o.month)), numbered 7)
     ∷ (is_over (position_of w h o.buyer o.month -ℤ pos o.quantity) || is_over (position_of w h o.seller o.month +ℤ pos o.quantity), numbered 8)
     ∷ (nat_le 256 (length (trades_of h)), numbered 9)
     ∷ []
