@@ -1,12 +1,12 @@
 // Why a trade sheet is not read, or not written.
 ghost use Rattle.std.specs.Prelude.{◌≡◌, Some};
-ghost use Rattle.sheet.specs.Faults.{fault_message, write_message};
-ghost use Rattle.sheet.specs.Sheet.{fault_line};
+ghost use Rattle.sheet.specs.Faults.{fault_line, fault_message, write_message};
 
 use std::error::Error;
 use std::fmt;
 
-// Why bytes are no trade sheet: their length, the count of trades, the session day, or the code of a line.
+/// Why bytes are no trade sheet: their length, the count of trades, the session day, or the code
+/// of a line, counted from 0.
 #[derive(Clone, Copy, PartialEq, Eq, Debug)]
 pub enum SheetFault {
     Length,
@@ -16,7 +16,7 @@ pub enum SheetFault {
 }
 
 impl SheetFault {
-    // The line that the fault tells: that of a wrong code, else 0.
+    /// The line that the fault tells: that of a wrong code, else 0.
     // Kept: a refused sheet tells line 0 by the rules where no line is at fault.
     pub fn line(&self) -> u32
         ensures { result ≡ fault_line self.now }
@@ -44,7 +44,7 @@ impl fmt::Display for SheetFault {
 
 impl Error for SheetFault {}
 
-// Why a sheet is not written: the array is short, or the trades make no sheet.
+/// Why a sheet is not written: the array is short, or the trades make no sheet.
 #[derive(Clone, Copy, PartialEq, Eq, Debug)]
 pub enum WriteFault {
     Short,

@@ -9,7 +9,7 @@ ghost use Rattle.sheet.specs.Lines.{trades_left};
 
 use super::{SheetView, Trades, array_of};
 use crate::code::ContractCode;
-use crate::trade_line::TradeLine;
+use crate::trade_line::{MAX_TRADES, TradeLine};
 
 impl<'a> SheetView<'a> {
     /// The session day.
@@ -41,7 +41,7 @@ impl<'a> SheetView<'a> {
     /// The trades, in the order of their lines.
     pub fn trades(&self) -> Trades<'a>
         ensures items { trades_left result ≡ view_trades self.now }
-        ensures few { length (view_trades self.now) ≤ 256 }
+        ensures few { length (view_trades self.now) ≤ MAX_TRADES }
     {
         Trades {
             view: *self,
