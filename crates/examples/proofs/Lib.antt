@@ -5,5 +5,6 @@ mod LawfulSteps
 mod MonthNumbers
 mod MonthToItsEnd
 mod SeveralMonths
+mod SheetEdges
 mod TwoLayers
 mod WrongBooks

@@ -4,5 +4,6 @@ pub mod Edges
 pub mod FullTolerance
 pub mod MonthToItsEnd
 pub mod SeveralMonths
+pub mod SheetEdges
 pub mod TwoLayers
 pub mod WrongBooks

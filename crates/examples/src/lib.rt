@@ -6,6 +6,7 @@ ghost use Rattle.examples.specs.Edges.{EdgesHold};
 ghost use Rattle.examples.specs.FullTolerance.{FullTolerance};
 ghost use Rattle.examples.specs.MonthToItsEnd.{MonthToItsEnd};
 ghost use Rattle.examples.specs.SeveralMonths.{SeveralMonths};
+ghost use Rattle.examples.specs.SheetEdges.{SheetEdges};
 ghost use Rattle.examples.specs.TwoLayers.{TwoLayers};
 ghost use Rattle.examples.specs.WrongBooks.{WrongBooks};
 
@@ -18,4 +19,5 @@ pub fn examples_hold()
     ensures layers { TwoLayers }
     ensures answers { AnswersHold }
     ensures edges { EdgesHold }
+    ensures sheets { SheetEdges }
 {}

@@ -4,6 +4,7 @@ use Rattle.examples.proofs.Edges.{edges-hold}
 use Rattle.examples.proofs.FullTolerance.{full-tolerance}
 use Rattle.examples.proofs.MonthToItsEnd.{month-to-its-end}
 use Rattle.examples.proofs.SeveralMonths.{several-months}
+use Rattle.examples.proofs.SheetEdges.{sheet-edges}
 use Rattle.examples.proofs.TwoLayers.{two-layers}
 use Rattle.examples.proofs.WrongBooks.{wrong-books}
 
@@ -16,4 +17,5 @@ returns c = record {
   layers = two-layers;
   answers = answers-hold;
   edges = edges-hold;
+  sheets = sheet-edges;
 }
