@@ -1,6 +1,5 @@
 -- What a close writes is what the rules give, for every account and month, in the book or not.
 use Rattle.std.proofs.Common.{◌≡◌, ℕ, zero, suc, ◌+◌, ◌<◌, ◌≤◌, ◌+ℤ◌, ◌⊎◌, Bool, true, false, cond, ◌&&◌, List, [], ◌∷◌, length, ℤ, pos, ◌-ℤ◌, sym, refl, ap, ◌∙◌, inl, inr, arith}
-use mathlib.Core.Path.{fun_ext}
 use lib.IntN.{zero-*ℤ}
 use borrow.Author.Differences.{ints}
 use Rattle.std.specs.List.{AllByRecursion, range_with_len}
@@ -102,13 +101,6 @@ cells w h c l a m =
       | inl b ↦ in-book h (adjustment_at w h) a m b
       | inr out ↦ outside-book h (adjustment_at w h) a m out ∙ sym (adjustment-outside w h l.1 a m out)
     ]
-
--- amounts that are the same in each cell are the same
-pub same-amounts : (x y : Amounts) → ((a m : ℕ) → x.adjustments a m ≡ y.adjustments a m) → ((a m : ℕ) → x.day_trades a m ≡ y.day_trades a m) → x ≡ y
-same-amounts x y adjustments day_trades =
-    let same = fun_ext (λ a. fun_ext (adjustments a)) in
-    let same_day = fun_ext (λ a. fun_ext (day_trades a)) in
-    λ i. record { adjustments = same i; day_trades = same_day i }
 
 -- ---- the listed months
 

@@ -64,14 +64,17 @@ in-order w h ticket n (t ∷ ts) = by (first_row (line_rows w h ticket t)) refl 
     by : (o : Option Reason) → first_row (line_rows w h ticket t) ≡ o → (k : ℕ) × InOrderFrom w (Traded (line_trade w h t) ∷ h) ticket (n + 1) ts k next
         → (k : ℕ) × InOrderFrom w h ticket n (t ∷ ts) k (stopped_or n h o next)
     by None e s = (suc s.0, taken-more w h ticket n t ts s.0 next e s.1)
-    by (Some reason) e s = (0, record {
-      taken = omega arith;
-      within = omega arith;
-      accepted = tt;
-      history = refl;
-      stop = ap (option_map (book_stop n)) (sym e);
-      whole = λ none. absurd cc;
-    })
+    by (Some reason) e s = (
+      0,
+      record {
+        taken = omega arith;
+        within = omega arith;
+        accepted = tt;
+        history = refl;
+        stop = ap (option_map (book_stop n)) (sym e);
+        whole = λ none. absurd cc;
+      },
+    )
 
 -- the same lines, taken in the same order
 same : (i j : Import) → i.taken ≡ j.taken → i.stop ≡ j.stop → i.history ≡ j.history → i ≡ j

@@ -1,12 +1,9 @@
 -- A rate once known stays.
-use Rattle.std.proofs.Common.{◌≡◌, ℕ, Bool, true, false, cond, not, eqb, List, [], ◌∷◌, ◌++◌, is_some, Some, None, filter, Option, sym, refl, ap, ◌∙◌}
-use Rattle.std.proofs.lemmas.Bool.{eqb-true}
-use Rattle.std.proofs.lemmas.Option.{none-some}
+use Rattle.std.proofs.Common.{◌≡◌, ℕ, cond, not, List, [], ◌∷◌, ◌++◌, is_some, Some, None, filter, Option, refl}
 use Rattle.calendar.specs.Spans.{first_in}
 use Rattle.correction.specs.Gaps.{factors, is_unrated, first_unrated}
-use Rattle.rates.specs.declared.entry.DayRate.{DayRate}
 use Rattle.rates.specs.Meanings.{rates_of}
-use Rattle.rates.specs.Publishing.{Sets}
+use Rattle.rates.proofs.Laws.{sets-keeps}
 use Rattle.rates.proofs.Layering.{published_sets, arbitrated_sets}
 use Rattle.model.specs.History.{History, Event, Published, Arbitrated}
 use Rattle.model.specs.Lawful.{Lawful}
@@ -15,22 +12,14 @@ use Rattle.model.specs.Observed.{source_of, rate_on}
 use Rattle.model.specs.World.{World}
 use Rattle.model.proofs.Allowing.{publishing, arbitrating}
 
--- a day that had no rate is given one: any other keeps its own
-given : (before after : ℕ → Option ℕ) (entry : DayRate) (d r : ℕ) → Sets before entry after → before entry.day ≡ None → before d ≡ Some r → after d ≡ Some r
-given before after entry d r sets none known = sets d ∙ by (eqb d entry.day) refl
-  where
-    by : (b : Bool) → eqb d entry.day ≡ b → cond b (Some entry.rate) (before d) ≡ Some r
-    by true e = absurd (none-some r (sym none ∙ ap before (sym (eqb-true d entry.day e)) ∙ known))
-    by false e = known
-
 -- a rate stays, whatever happens next
 pub rate-stays : (w : World) (h : History) (e : Event) (d r : ℕ) → Lawful w (e ∷ h) → rate_on w h d ≡ Some r → rate_on w (e ∷ h) d ≡ Some r
 rate-stays w h (Published entry) d r l known =
     let x = publishing w h entry l.0 in
-    given (rate_on w h) (rate_on w (Published entry ∷ h)) entry d r (published_sets (source_of w h) entry x.free) x.unrated known
+    sets-keeps (rate_on w h) (rate_on w (Published entry ∷ h)) entry d r (published_sets (source_of w h) entry x.free) x.unrated known
 rate-stays w h (Arbitrated entry) d r l known =
     let x = arbitrating w h entry l.0 in
-    given (rate_on w h) (rate_on w (Arbitrated entry ∷ h)) entry d r (arbitrated_sets (source_of w h) entry x.free) x.unrated known
+    sets-keeps (rate_on w h) (rate_on w (Arbitrated entry ∷ h)) entry d r (arbitrated_sets (source_of w h) entry x.free) x.unrated known
 rate-stays w h e d r l known = known
 
 -- so one that was there when the book was made is there now
