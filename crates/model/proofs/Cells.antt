@@ -10,7 +10,7 @@ use Rattle.amounts.specs.declared.trades.Side.{Side}
 use Rattle.amounts.specs.declared.trades.Side.TheVariants.{Bought, Sold}
 use Rattle.amounts.specs.declared.trades.Trade.{Trade}
 use Rattle.amounts.specs.Sums.{total}
-use Rattle.amounts.specs.Trades.{party_of, lots_of, contracts_of, position_change}
+use Rattle.amounts.specs.Trades.{party_of, contracts_on, contracts_of, position_change}
 use Rattle.amounts.specs.Amounts.{gain_of, on_trades}
 use Rattle.model.specs.World.{World}
 use Rattle.model.specs.History.{History, Amounts, Closed}
@@ -21,12 +21,12 @@ use Rattle.model.specs.Lawful.{Lawful}
 use Rattle.model.specs.Closes.{in_book, amounts_at_close}
 use Rattle.model.proofs.Dealt.{Fits, session-fits, closed-fit}
 
-pub lots-outside : (side : Side) (n k a m : ℕ) (t : Trade) → party_of side t < n → t.month < k → ((a < n) × (m < k) → ⊥) → lots_of side a m t ≡ 0
-lots-outside side n k a m t p q out = grind (arith, nat_tests)
+pub side-outside : (side : Side) (n k a m : ℕ) (t : Trade) → party_of side t < n → t.month < k → ((a < n) × (m < k) → ⊥) → contracts_on side a m t ≡ 0
+side-outside side n k a m t p q out = grind (arith, nat_tests)
 
 -- an account or month outside has no contracts in a trade that fits
 pub outside : (n k a m : ℕ) (t : Trade) → Fits n k t → ((a < n) × (m < k) → ⊥) → contracts_of a m t ≡ pos 0
-outside n k a m t f out = rw (lots-outside Bought n k a m t f.seller f.month out, lots-outside Sold n k a m t f.buyer f.month out)
+outside n k a m t f out = rw (side-outside Bought n k a m t f.seller f.month out, side-outside Sold n k a m t f.buyer f.month out)
 
 -- a sum of nothing but zeros
 pub total-none : {X : Type 0} (f : X → ℤ) (xs : List X) → AllByRecursion (λ x. f x ≡ pos 0) xs → total f xs ≡ pos 0

@@ -42,20 +42,20 @@ gain-most z a b k h l =
 
 -- a small trade, whose month stands at most once in a list
 record Small (ms : List ℕ) (t : Trade) : Type 0 where
-  quantity : t.quantity ≤ 20000
+  contracts : t.contracts ≤ 20000
   price : t.price ≤ 10000000
   once : count_by (eqb t.month) ms ≤ 1
 
 module _ (a : ℕ) (price : ℕ → ℕ) (low : (m : ℕ) → price m ≤ 10000000) where
   -- an account has contracts in the trade's month alone
-  contracts-most : (t : Trade) → t.quantity ≤ 20000 → (m : ℕ) → nat_abs (contracts_of a m t) ≤ cond (eqb t.month m) 1 0 * 20000
+  contracts-most : (t : Trade) → t.contracts ≤ 20000 → (m : ℕ) → nat_abs (contracts_of a m t) ≤ cond (eqb t.month m) 1 0 * 20000
   contracts-most t q m = by (eqb t.month m) refl
     where
       by : (b : Bool) → eqb t.month m ≡ b → nat_abs (contracts_of a m t) ≤ cond b 1 0 * 20000
       by true e = omega (arith, contracts-size a m t)
       by false e = rw e (omega (arith, ints))
 
-  trade-most : (t : Trade) → t.quantity ≤ 20000 → t.price ≤ 10000000 → (ms : List ℕ)
+  trade-most : (t : Trade) → t.contracts ≤ 20000 → t.price ≤ 10000000 → (ms : List ℕ)
       → nat_abs (total (λ m. gain_of (contracts_of a m t) (price m) t.price) ms) ≤ count_by (eqb t.month) ms * 200000000000
   trade-most t q p [] = omega arith
   trade-most t q p (m ∷ ms) =
@@ -70,7 +70,7 @@ module _ (a : ℕ) (price : ℕ → ℕ) (low : (m : ℕ) → price m ≤ 100000
   unfolding on_trades
   trades-most ms [] s = let z : total (λ m. on_trades a m (price m) []) ms ≡ pos 0 = total-zero ms in omega (arith, ints)
   trades-most ms (t ∷ ts) s =
-      let k = trade-most t s.0.quantity s.0.price ms in
+      let k = trade-most t s.0.contracts s.0.price ms in
       let o = s.0.once in
       rw (total-sum (λ m. gain_of (contracts_of a m t) (price m) t.price) (λ m. on_trades a m (price m) ts) ms)
       (omega (arith, ints, trades-most ms ts s.1))
@@ -81,7 +81,7 @@ smalls : (w : World) (h : History) (ms : List ℕ) → ((m : ℕ) → m < 16 →
 smalls w h ms once few [] f p = tt
 smalls w h ms once few (t ∷ ts) f p =
     let i = f.0.month in
-    (record { quantity = f.0.small; price = p.0.1; once = once t.month (omega arith) }, smalls w h ms once few ts f.1 p.1)
+    (record { contracts = f.0.small; price = p.0.1; once = once t.month (omega arith) }, smalls w h ms once few ts f.1 p.1)
 
 -- of every element alike
 every : (f : ℕ → ℤ) (k : ℕ) → ((m : ℕ) → nat_abs (f m) ≤ k) → (ms : List ℕ) → AllByRecursion (λ m. nat_abs (f m) ≤ k) ms

@@ -6,7 +6,7 @@ use Rattle.std.proofs.lemmas.Bool.{true≢false, and_from, agree_below, agree_be
 use Rattle.amounts.specs.declared.trades.Side.{Side}
 use Rattle.amounts.specs.declared.trades.Side.TheVariants.{Bought, Sold}
 use Rattle.amounts.specs.declared.trades.Trade.{Trade}
-use Rattle.amounts.specs.DayTrades.{units, firsts, day_trade}
+use Rattle.amounts.specs.DayTrades.{contract_prices, firsts, day_trade}
 use Rattle.amounts.specs.Trades.{party_of}
 use Rattle.model.specs.Accounts.{account_indices, month_indices}
 use Rattle.model.specs.World.{World}
@@ -16,7 +16,7 @@ use Rattle.model.specs.Limits.{NothingOutside}
 use Rattle.model.specs.Moves.{DayTradesWritten}
 use Rattle.model.specs.Observed.{accounts_of, months_of, trades_of}
 use Rattle.model.specs.Positions.{adjustment_at}
-use Rattle.model.proofs.Cells.{InBook, in_or_out, in-book, outside-book, lots-outside}
+use Rattle.model.proofs.Cells.{InBook, in_or_out, in-book, outside-book, side-outside}
 use Rattle.model.proofs.Dealt.{Fits, accounts-few, session-fits}
 use Rattle.model.proofs.Sizes.{months-few}
 
@@ -26,15 +26,15 @@ module _ (n k a m : ℕ) (out : (a < n) × (m < k) → ⊥) where
   party-fits Sold t f = f.buyer
 
   -- an account or month outside has no contracts on a side
-  units-outside : (side : Side) (ts : List Trade) → AllByRecursion (Fits n k) ts → units side a m ts ≡ []
-  unfolding units
-  units-outside side [] f = refl
-  units-outside side (t ∷ ts) f =
-      rw (lots-outside side n k a m t (party-fits side t f.0) f.0.month out, units-outside side ts f.1) refl
+  prices-outside : (side : Side) (ts : List Trade) → AllByRecursion (Fits n k) ts → contract_prices side a m ts ≡ []
+  unfolding contract_prices
+  prices-outside side [] f = refl
+  prices-outside side (t ∷ ts) f =
+      rw (side-outside side n k a m t (party-fits side t f.0) f.0.month out, prices-outside side ts f.1) refl
 
   day-trade-outside : (ts : List Trade) → AllByRecursion (Fits n k) ts → day_trade a m ts ≡ pos 0
   unfolding firsts
-  day-trade-outside ts f = rw (units-outside Bought ts f, units-outside Sold ts f) refl
+  day-trade-outside ts f = rw (prices-outside Bought ts f, prices-outside Sold ts f) refl
 
 new-day-trades : (w : World) (h : History) (c : Amounts) → Lawful w (Closed c ∷ h) → (a m : ℕ) → c.day_trades a m ≡ day_trade a m (trades_of h)
 new-day-trades w h c l a m =

@@ -1,7 +1,7 @@
 -- What a close writes: the amounts of each account in each month, and where they stand in an array.
-use Rattle.std.specs.Prelude.{ℕ, ◌*◌, cond, ◌&&◌, List, ◌++◌, map, length, drop, ℤ, pos}
-use Rattle.std.specs.List.{range_with_len, flat_map}
+use Rattle.std.specs.Prelude.{ℕ, ◌*◌, cond, ◌&&◌, List, length, ℤ, pos}
 use Rattle.amounts.specs.DayTrades.{day_trade}
+use Rattle.amounts.specs.Rows as rows
 use Rattle.model.specs.World.{World}
 use Rattle.model.specs.History.{History, Amounts}
 use Rattle.model.specs.Observed.{accounts_of, months_of, is_account, is_listed, trades_of}
@@ -22,10 +22,6 @@ amounts_at_close w h = record {
 abbrev pub cells_of : History → ℕ
 cells_of h = length (accounts_of h) * length (months_of h)
 
--- the rows of the first n accounts, one after another, each with the amounts of the first k months
-abbrev pub rows_of : ℕ → ℕ → (ℕ → ℕ → ℤ) → List ℤ
-rows_of n k amount = flat_map (λ a. map (amount a) (range_with_len 0 k)) (range_with_len 0 n)
-
 -- an array after a close: with k months the amount of account a in month m stands at a × k + m; the rest of the array is as before
 abbrev pub written_to : History → (ℕ → ℕ → ℤ) → List ℤ → List ℤ
-written_to h amount old = rows_of (length (accounts_of h)) (length (months_of h)) amount ++ drop (cells_of h) old
+written_to h amount old = rows.written_to (length (accounts_of h)) (length (months_of h)) amount old

@@ -1,10 +1,10 @@
 -- What a close can rely on: laws of the session that is open.
-use Rattle.std.specs.Prelude.{◌≡◌, ℕ, ◌≤◌, ◌∷◌, length, pos, ◌-ℤ◌, Some, unsigned_abs}
+use Rattle.std.specs.Prelude.{◌≡◌, ℕ, ◌≤◌, ◌∷◌, length, pos, Some, unsigned_abs}
 use Rattle.std.specs.List.{range_with_len}
 use Rattle.calendar.specs.declared.span.TheConstants.{MAX_SESSION_SEARCH_DAYS}
-use Rattle.amounts.specs.Amounts.{adjustment_of}
+use Rattle.amounts.specs.Amounts.{adjustment_of, carried_in}
 use Rattle.amounts.specs.Sums.{total}
-use Rattle.amounts.specs.Trades.{position_change}
+use Rattle.amounts.specs.declared.trades.TheConstants.{MAX_POSITION}
 use Rattle.model.specs.Closes.{amounts_at_close}
 use Rattle.model.specs.History.{History, Amounts, Closed}
 use Rattle.model.specs.Lawful.{Lawful}
@@ -17,11 +17,11 @@ use Rattle.model.specs.World.{World}
 -- the position that the session began with is the present one less what the session's trades changed
 abbrev pub CarriedBefore : Type 0
 CarriedBefore = (w : World) (h : History) (d a m : ℕ) → Lawful w h → open_session h ≡ Some d
-    → carried_of w h a m ≡ position_of w h a m -ℤ position_change a m (trades_of h)
+    → carried_of w h a m ≡ carried_in a m (trades_of h) (position_of w h a m)
 
 -- it is of at most 500,000 contracts, bought or sold
 abbrev pub CarriedLimited : Type 0
-CarriedLimited = (w : World) (h : History) (a m : ℕ) → Lawful w h → unsigned_abs (carried_of w h a m) ≤ 500000
+CarriedLimited = (w : World) (h : History) (a m : ℕ) → Lawful w h → unsigned_abs (carried_of w h a m) ≤ MAX_POSITION
 
 -- from the latest closed session to the latest session there are at most 60 reserve days
 abbrev pub GapShort : Type 0
@@ -36,7 +36,7 @@ CorrectedLimited = (w : World) (h : History) (m : ℕ) → Lawful w h → RatesL
 abbrev pub AdjustmentSeen : Type 0
 AdjustmentSeen = (w : World) (h : History) (d a m : ℕ) → Lawful w h → open_session h ≡ Some d
     → adjustment_at w h a m
-    ≡ adjustment_of a m (settlement_price w h m) (trades_of h) (position_of w h a m -ℤ position_change a m (trades_of h))
+    ≡ adjustment_of a m (settlement_price w h m) (trades_of h) (carried_in a m (trades_of h) (position_of w h a m))
     (corrected_since w.kinds (rate_on w h) (latest_closed w h) (newest_price m (sessions_of w h)) (session_day h))
 
 -- the adjustments of an account are those of the listed months

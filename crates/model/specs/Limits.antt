@@ -6,6 +6,7 @@ use Rattle.calendar.specs.Kinds.{is_session}
 use Rattle.dates.specs.declared.TheConstants.{LAST_DAY}
 use Rattle.interest.specs.declared.di_rates.TheConstants.{MAX_DI_RATE}
 use Rattle.rates.specs.Meanings.{rates_of}
+use Rattle.amounts.specs.declared.trades.TheConstants.{MAX_ACCOUNTS, MAX_MONTHS, MAX_POSITION}
 use Rattle.amounts.specs.Trades.{Limited}
 use Rattle.model.specs.Accounts.{account_indices, month_indices}
 use Rattle.model.specs.History.{History, Amounts, trade_made, amounts_written, gather}
@@ -17,11 +18,11 @@ use Rattle.model.specs.World.{World}
 
 -- at most 32 accounts and 16 months
 abbrev pub TablesLimited : Type 0
-TablesLimited = (w : World) (h : History) → Lawful w h → (length (accounts_of h) ≤ 32) × (length (months_of h) ≤ 16)
+TablesLimited = (w : World) (h : History) → Lawful w h → (length (accounts_of h) ≤ MAX_ACCOUNTS) × (length (months_of h) ≤ MAX_MONTHS)
 
 -- no position passes 500,000 contracts, bought or sold
 abbrev pub PositionsLimited : Type 0
-PositionsLimited = (w : World) (h : History) (a m : ℕ) → Lawful w h → unsigned_abs (position_of w h a m) ≤ 500000
+PositionsLimited = (w : World) (h : History) (a m : ℕ) → Lawful w h → unsigned_abs (position_of w h a m) ≤ MAX_POSITION
 
 -- every session has at most 256 trades, of at most 20,000 contracts each
 abbrev pub TradesLimited : Type 0

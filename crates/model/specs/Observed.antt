@@ -98,8 +98,8 @@ price_on w h day order = trade_price order.rate (days_to w.kinds day (month_at h
 
 -- an order that is traded at a price
 abbrev pub trade_at : Order → ℕ → Trade
-trade_at order price = record { buyer = order.buyer; seller = order.seller; month = order.month; rate = order.rate; quantity = order.quantity; price = price }
+trade_at order price = record { buyer = order.buyer; seller = order.seller; month = order.month; rate = order.rate; contracts = order.quantity; price = price }
 
 -- the order of a trade
 abbrev pub order_of : Trade → Order
-order_of t = record { buyer = t.buyer; seller = t.seller; month = t.month; rate = t.rate; quantity = t.quantity }
+order_of t = record { buyer = t.buyer; seller = t.seller; month = t.month; rate = t.rate; quantity = t.contracts }

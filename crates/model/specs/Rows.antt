@@ -2,6 +2,7 @@
 use Rattle.std.specs.Prelude.{ℕ, Bool, true, not, ◌&&◌, ◌||◌, List, [], ◌∷◌, length, ℤ, pos, ◌+ℤ◌, ◌-ℤ◌, is_some, Some, None, filter, Option, ◌==◌, nat_le, nat_lt, unsigned_abs}
 use Rattle.std.specs.List.{range_with_len, list_any}
 use Rattle.std.specs.Option.{unwrap_or}
+use Rattle.amounts.specs.declared.trades.TheConstants.{MAX_ACCOUNTS, MAX_MONTHS, MAX_TRADES, MAX_CONTRACTS, MAX_POSITION}
 use Rattle.calendar.specs.Spans.{expiry_of, first_in}
 use Rattle.correction.specs.Gaps.{first_unrated}
 use Rattle.interest.specs.Tick.{on_tick}
@@ -36,7 +37,7 @@ expired_row w h m = (nat_le (expiry_at w h m) (session_day h), numbered 3)
 -- 18, 19: to enter an account
 abbrev pub enter_rows : History → Account → List Row
 enter_rows h x =
-    (nat_le 32 (length (accounts_of h)), numbered 18)
+    (nat_le MAX_ACCOUNTS (length (accounts_of h)), numbered 18)
     ∷ (list_any (same_account x) (accounts_of h), numbered 19)
     ∷ []
 
@@ -48,7 +49,7 @@ lacks_expiry w h (Some expiry) = nat_le expiry w.start || nat_le expiry (session
 -- 18, 19, 20: to list a month, by its number
 abbrev pub list_rows : World → History → ℕ → List Row
 list_rows w h n =
-    (nat_le 16 (length (months_of h)), numbered 18)
+    (nat_le MAX_MONTHS (length (months_of h)), numbered 18)
     ∷ (list_any (λ k. n == k) (months_of h), numbered 19)
     ∷ (lacks_expiry w h (expiry_of w.kinds n), numbered 20)
     ∷ []
@@ -70,7 +71,7 @@ open_rows w h =
 
 -- more than 500,000 contracts, bought or sold
 abbrev pub is_over : ℤ → Bool
-is_over position = nat_lt 500000 (unsigned_abs position)
+is_over position = nat_lt MAX_POSITION (unsigned_abs position)
 
 -- 1 to 9: to trade
 abbrev pub trade_rows : World → History → SessionReference → Order → List Row
@@ -79,11 +80,11 @@ trade_rows w h ticket o =
     ∷ (not (is_account h o.buyer && (is_account h o.seller && is_listed h o.month)), numbered 2)
     ∷ expired_row w h o.month
     ∷ ((o.buyer == o.seller), numbered 4)
-    ∷ (o.quantity == 0 || nat_lt 20000 o.quantity, numbered 5)
+    ∷ (o.quantity == 0 || nat_lt MAX_CONTRACTS o.quantity, numbered 5)
     ∷ (nat_lt MAX_DEALT_RATE o.rate || not (on_tick o.rate (distance (session_day h) (month_at h o.month))), numbered 6)
     ∷ (nat_lt MAX_RESERVE_DAYS (days_to w.kinds (session_day h) (month_at h o.month)), numbered 7)
     ∷ (is_over (position_of w h o.buyer o.month -ℤ pos o.quantity) || is_over (position_of w h o.seller o.month +ℤ pos o.quantity), numbered 8)
-    ∷ (nat_le 256 (length (trades_of h)), numbered 9)
+    ∷ (nat_le MAX_TRADES (length (trades_of h)), numbered 9)
     ∷ []
 
 -- 1, 2, 3, 10: to mark a month, by its index, with a price
