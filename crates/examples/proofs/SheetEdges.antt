@@ -10,17 +10,34 @@ pub sheet-edges : SheetEdges
 unfolding figures sheet_bytes lines_of
 sheet-edges = record {
   read = refl;
-  imported =
-      (inr (refl, rw december-30),
-      (inr (refl, refl),
-      (inl (Length, refl, refl),
-      (inl (Count, refl, refl),
-      (inl (Day, refl, refl),
-      (inl (Code 1, refl, refl),
-      (inl (Code 1, refl, refl),
-      (inr (refl, refl),
-      (inr (refl, rw december-30),
-      (inr (refl, rw december-30), tt))))))))));
+  imported = (
+    inr (refl, rw december-30),
+    (
+      inr (refl, refl),
+      (
+        inl (Length, refl, refl),
+        (
+          inl (Count, refl, refl),
+          (
+            inl (Day, refl, refl),
+            (
+              inl (Code 1, refl, refl),
+              (
+                inl (Code 1, refl, refl),
+                (
+                  inr (refl, refl),
+                  (
+                    inr (refl, rw december-30),
+                    (inr (refl, rw december-30), tt),
+                  ),
+                ),
+              ),
+            ),
+          ),
+        ),
+      ),
+    ),
+  );
   tickets = (inr (refl, refl), (inl (Day, refl, refl), tt));
   write = refl;
   bytes = refl;

@@ -1,5 +1,5 @@
 -- What accepted calls answer, and what a close leaves in the arrays that it is handed.
-use Rattle.std.specs.Prelude.{◌≡◌, ℕ, List, [], ◌∷◌, drop, ℤ, pos, neg_ℤ, Some, None, Option}
+use Rattle.std.specs.Prelude.{◌≡◌, ℕ, List, [], ◌∷◌, ◌++◌, drop, replicate, ℤ, pos, neg_ℤ, Some, None, Option}
 use Rattle.examples.specs.Books.{weekdays, only_session, clients, of_day, order, nothing, in_session, after_close, Same}
 use Rattle.examples.specs.MonthToItsEnd.{new_year, one_month}
 use Rattle.examples.specs.SeveralMonths.{two_months}
@@ -9,6 +9,7 @@ use Rattle.model.specs.Closes.{amounts_at_close, written_to}
 use Rattle.model.specs.History.{History, Opened, Closed}
 use Rattle.model.specs.Positions.{position_of, balance_of}
 use Rattle.model.specs.References.{SessionReference}
+use Rattle.model.specs.World.{World}
 
 -- indices of accounts and of months are counted from 0
 abbrev pub index_answers : List (ℕ × ℕ)
@@ -78,21 +79,19 @@ balance_answers =
 abbrev pub old_array : List ℤ
 old_array = pos 101 ∷ pos 102 ∷ pos 103 ∷ pos 104 ∷ pos 105 ∷ pos 106 ∷ pos 107 ∷ pos 108 ∷ []
 
--- what closes leave in such an array
-abbrev pub array_answers : List (List ℤ × List ℤ)
+-- what a close leaves in two such arrays
+abbrev pub arrays_after : World → History → List ℤ × List ℤ
+arrays_after w h = (written_to h (amounts_at_close w h).adjustments old_array, written_to h (amounts_at_close w h).day_trades old_array)
+
+-- the arrays of adjustments and of day trades
+abbrev pub array_answers : List ((List ℤ × List ℤ) × (List ℤ × List ℤ))
 array_answers =
-    -- two accounts in one month: adjustments and day trades
-    (written_to (drop 20 two_months) (amounts_at_close new_year (drop 20 two_months)).adjustments old_array,
-    pos 2342 ∷ neg_ℤ (pos 2342) ∷ drop 2 old_array)
-    ∷ (written_to (drop 20 two_months) (amounts_at_close new_year (drop 20 two_months)).day_trades old_array,
-    pos 1412 ∷ neg_ℤ (pos 1412) ∷ drop 2 old_array)
-    -- three accounts in two months, the row of account 1 from place 2 on and that of account 2 from place 4
-    ∷ (written_to (drop 10 two_months) (amounts_at_close new_year (drop 10 two_months)).adjustments old_array,
-    neg_ℤ (pos 1658) ∷ pos 0 ∷ pos 318 ∷ pos 21 ∷ pos 1340 ∷ neg_ℤ (pos 21) ∷ pos 107 ∷ pos 108 ∷ [])
-    ∷ (written_to (drop 10 two_months) (amounts_at_close new_year (drop 10 two_months)).day_trades old_array,
-    pos 0 ∷ pos 0 ∷ pos 0 ∷ pos 0 ∷ pos 0 ∷ pos 0 ∷ pos 107 ∷ pos 108 ∷ [])
+    -- two accounts in one month
+    (arrays_after new_year (drop 20 two_months), (pos 2342 ∷ neg_ℤ (pos 2342) ∷ drop 2 old_array, pos 1412 ∷ neg_ℤ (pos 1412) ∷ drop 2 old_array))
+    -- three accounts in two months: the row of account 1 from place 2 on, that of account 2 from place 4
+    ∷ (arrays_after new_year (drop 10 two_months), (neg_ℤ (pos 1658) ∷ pos 0 ∷ pos 318 ∷ pos 21 ∷ pos 1340 ∷ neg_ℤ (pos 21) ∷ drop 6 old_array, replicate 6 (pos 0) ++ drop 6 old_array))
     -- no accounts
-    ∷ (written_to (Opened 9860 ∷ []) (amounts_at_close weekdays (Opened 9860 ∷ [])).adjustments old_array, old_array)
+    ∷ (arrays_after weekdays (Opened 9860 ∷ []), (old_array, old_array))
     ∷ []
 
 -- every answer is the one that stands beside it

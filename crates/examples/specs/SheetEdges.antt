@@ -9,10 +9,9 @@ use Rattle.sheet.specs.declared.fault.SheetFault.{SheetFault}
 use Rattle.sheet.specs.declared.fault.SheetFault.TheVariants.{Length, Count, Day, Code}
 use Rattle.sheet.specs.declared.trade_line.TradeLine.{TradeLine}
 use Rattle.examples.specs.Books.{weekdays, of_day, order, in_session, Same, refusal}
-use Rattle.model.specs.declared.calls.Layer.{Layer}
 use Rattle.model.specs.declared.calls.Layer.TheVariants as layers
-use Rattle.model.specs.History.{History, Event, Traded}
-use Rattle.model.specs.Imports.{Stop, Import, ImportsTo, line_trade}
+use Rattle.model.specs.History.{History, Traded}
+use Rattle.model.specs.Imports.{Import, ImportsTo, line_trade}
 use Rattle.model.specs.Observed.{trade_at}
 use Rattle.model.specs.References.{SessionReference}
 
