@@ -1,7 +1,7 @@
 // What the calls of a book take, and what they answer.
 
 /// An account: a client, through a participant and its clearing member.
-#[derive(Clone, Copy, PartialEq, Eq, Debug)]
+#[derive(Clone, Copy, Default, PartialEq, Eq, Debug)]
 pub struct Account {
     pub client: u32,
     pub participant: u32,

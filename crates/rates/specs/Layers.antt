@@ -10,6 +10,6 @@ abbrev pub layer_meaning : {X : Type 0} → (X → Meaning) → ArbitrationLayer
 layer_meaning meaning x = under x.days.items (meaning x.below)
 
 -- the rate of the day is the arbitrated one of this layer
-abbrev pub by_layer : {X : Type 0} → (X → Meaning) → ArbitrationLayer X → ℕ → Bool
-by_layer meaning x d =
+abbrev pub is_arbitrated : {X : Type 0} → (X → Meaning) → ArbitrationLayer X → ℕ → Bool
+is_arbitrated meaning x d =
     inside (meaning x.below).horizon d && (not (is_some (rates_of (meaning x.below) d)) && is_some (arbitrated_rate x.days.items d))

@@ -1,4 +1,4 @@
-// Sources at their edges, and a table under three layers.
+//! Sources at their edges, and a table under three layers.
 ghost use Rattle.std.specs.Prelude.{◌≡◌, ℕ, true, is_some, Some};
 
 use crate::entry::DayRate;
@@ -130,7 +130,13 @@ fn three_layers(rt: HostRuntime) -> Result<(), Fail> {
         Err(Error::HasRate)
     );
     assert_eq!(rt;
-        outer.publish(DayRate { day: 102, rate: 9 }, 1),
+        outer.publish(
+            DayRate {
+                day: 102,
+                rate: 100_000_000
+            },
+            2
+        ),
         Err(Error::HasRate)
     );
     assert_eq!(rt;

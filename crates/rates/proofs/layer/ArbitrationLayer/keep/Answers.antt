@@ -2,7 +2,7 @@ use Rattle.std.proofs.Common.{ap, ◌∙◌, rules}
 use Rattle.rates.specs.ArbitratedDays.{within_limit}
 use Rattle.rates.specs.Meanings.{under}
 use Rattle.rates.proofs.Layering.{arbitrated_sets}
-use Rattle.rates.specs.DayLaws.{limit-more}
+use Rattle.rates.specs.RateBounds.{limit-more}
 use Rattle.rates.proofs.layer.ArbitrationLayer.keep.Goals as goal
 
 pub invariant_of-self : goal.invariant_of-self
