@@ -7,7 +7,7 @@ use Rattle.calendar.specs.declared.kind.DayKind.TheVariants.{ClosedDay, SessionD
 use Rattle.calendar.specs.declared.rule.Exception.{Exception}
 use Rattle.calendar.specs.Kinds.{ruled}
 use Rattle.rates.specs.declared.entry.DayRate.{DayRate}
-use Rattle.rates.specs.Meanings.{Meaning, bare, under}
+use Rattle.rates.specs.Meanings.{Meaning, plain_meaning, under}
 use Rattle.rows.specs.Rows.{Reason, Row, numbered, first_row}
 use Rattle.model.specs.declared.calls.Account.{Account}
 use Rattle.model.specs.declared.calls.Order.{Order}
@@ -24,7 +24,7 @@ day_rate day rate = record { day = day; rate = rate }
 
 -- a source that publishes the rates of days 9,860 to 9,869
 abbrev pub ten_days : (ℕ → Option ℕ) → Meaning
-ten_days published = bare (record { first = 9860; count = 10 }) published
+ten_days published = plain_meaning (record { first = 9860; count = 10 }) published
 
 -- such a source without a rate yet, under a layer without a day
 abbrev pub no_rates : Meaning

@@ -2,7 +2,7 @@
 use Rattle.std.specs.Prelude.{◌≡◌, ℕ, List, [], ◌∷◌, ◌++◌, map, replicate, Some, None, Option}
 use Rattle.std.specs.List.{range_with_len}
 use Rattle.calendar.specs.Kinds.{ruled}
-use Rattle.rates.specs.Meanings.{Meaning, bare, under}
+use Rattle.rates.specs.Meanings.{Meaning, plain_meaning, under}
 use Rattle.rows.specs.Rows.{Reason, Row, numbered}
 use Rattle.examples.specs.Books.{day_rate, ten_days, book_on, weekdays, only_session, client, clients, of_day, order, nothing, in_session, after_close, Same, Refuse, refusal, refusal_with}
 use Rattle.model.specs.declared.calls.Order.{Order}
@@ -15,7 +15,7 @@ use Rattle.model.specs.World.{World}
 -- a source under a layer that has the first n days of 9,840 to 9,869
 abbrev pub days_arbitrated : ℕ → Meaning
 days_arbitrated n =
-    under (map (λ day. day_rate day 10000000) (range_with_len 9840 n)) (bare (record { first = 9840; count = 30 }) (λ _. None))
+    under (map (λ day. day_rate day 10000000) (range_with_len 9840 n)) (plain_meaning (record { first = 9840; count = 30 }) (λ _. None))
 
 -- a book on that source
 abbrev pub layer_with : ℕ → World

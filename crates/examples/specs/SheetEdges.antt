@@ -1,19 +1,16 @@
 -- Imports of trade sheets from their bytes, and sheets that are read and written, at their edges.
 use Rattle.std.specs.Prelude.{◌≡◌, ℕ, ◌+◌, List, [], ◌∷◌, ◌++◌, take, replicate, Some, None, Option, codes}
-use Rattle.std.specs.List.{range_with_len, flat_map, AllByRecursion}
-use Rattle.std.specs.Option.{option_map}
+use Rattle.std.specs.List.{range_with_len, flat_map}
 use Rattle.rows.specs.Rows.{Reason, numbered}
-use Rattle.sheet.specs.Faults.{write_reason}
-use Rattle.sheet.specs.Sheet.{sheet_bytes, read_fault, write_fault}
+use Rattle.sheet.specs.Sheet.{sheet_bytes, read_fault}
 use Rattle.sheet.specs.declared.fault.SheetFault.{SheetFault}
 use Rattle.sheet.specs.declared.fault.SheetFault.TheVariants.{Length, Count, Day, Code}
 use Rattle.sheet.specs.declared.trade_line.TradeLine.{TradeLine}
 use Rattle.examples.specs.Books.{weekdays, of_day, order, in_session, Same, refusal}
 use Rattle.model.specs.declared.calls.Layer.TheVariants as layers
 use Rattle.model.specs.History.{History, Traded}
-use Rattle.model.specs.Imports.{Import, ImportsTo, line_trade}
+use Rattle.model.specs.Imports.{Import, import_of, write_refused, line_trade}
 use Rattle.model.specs.Observed.{trade_at}
-use Rattle.model.specs.References.{SessionReference}
 
 -- ---- bytes
 
@@ -94,30 +91,36 @@ after_february = Traded (trade_at (order 0 1 0 10000 10) 9913388) ∷ in_session
 abbrev pub after_march : History
 after_march = Traded (trade_at (order 2 1 1 10000 7) 9838683) ∷ after_february
 
--- bytes that are imported in the session of 9,860, and what they come to
-abbrev pub imports : List (List ℕ × Import)
-imports =
-    (two_lines, whole_import 2 after_march)
-    ∷ (0 ∷ 0 ∷ 132 ∷ 38 ∷ [], whole_import 0 in_session)
-    -- faults of length, count and day tell line 0, one of a code its line
-    ∷ (two_lines ++ 0 ∷ [], sheet_import 0)
-    ∷ (lines_of_april 257 1 1, sheet_import 0)
-    ∷ (0 ∷ 0 ∷ 133 ∷ 38 ∷ [], sheet_import 0)
-    ∷ (bytes_of 2 (0 ∷ 1 ∷ 2 ∷ 1 ∷ []) (february ++ terms_with (codes "DI1I27") 7), sheet_import 1)
-    -- such a fault comes before the refusal of any line: here account 1 is both sides of line 0
-    ∷ (bytes_of 2 (1 ∷ 1 ∷ 2 ∷ 1 ∷ []) (february ++ terms_with (codes "DI1I27") 7), sheet_import 1)
-    -- a month that is not listed, in the first line and in the second
-    ∷ (lines_of_april 256 0 1, book_import 0 2 in_session)
-    ∷ (bytes_of 2 (0 ∷ 1 ∷ 2 ∷ 1 ∷ []) (february ++ terms_with (codes "DI1J27") 7), book_import 1 2 after_february)
+-- what bytes come to that are imported in the session of 9,860
+abbrev pub imported : List ℕ → Import
+imported bytes = import_of weekdays in_session (of_day 9860) bytes
+
+-- sheets without a fault: the book takes their lines in order until it refuses one
+abbrev pub line_edges : List (Import × Import)
+line_edges =
+    (imported two_lines, whole_import 2 after_march)
+    -- April in the second line
+    ∷ (imported (bytes_of 2 (0 ∷ 1 ∷ 2 ∷ 1 ∷ []) (february ++ terms_with (codes "DI1J27") 7)), book_import 1 2 after_february)
     -- account 1 is both sides of line 1: line 0 stands, and line 2 is not traded
-    ∷ (bytes_of 3 (0 ∷ 1 ∷ 1 ∷ 1 ∷ 2 ∷ 1 ∷ []) (february ++ february ++ march), book_import 1 4 after_february)
+    ∷ (imported (bytes_of 3 (0 ∷ 1 ∷ 1 ∷ 1 ∷ 2 ∷ 1 ∷ []) (february ++ february ++ march)), book_import 1 4 after_february)
     ∷ []
 
--- bytes of the session of 9,860 by these tickets: of another book, and of another day
-abbrev pub other_tickets : List (SessionReference × Import)
-other_tickets =
-    (record { number = 2; day = 9860 }, book_import 0 1 in_session)
-    ∷ (of_day 9861, sheet_import 0)
+-- sheets of which no line is traded
+abbrev pub import_edges : List (Import × Import)
+import_edges =
+    (imported (0 ∷ 0 ∷ 132 ∷ 38 ∷ []), whole_import 0 in_session)
+    -- faults of length, count and day tell line 0, one of a code its line
+    ∷ (imported (two_lines ++ 0 ∷ []), sheet_import 0)
+    ∷ (imported (lines_of_april 257 1 1), sheet_import 0)
+    ∷ (imported (0 ∷ 0 ∷ 133 ∷ 38 ∷ []), sheet_import 0)
+    ∷ (imported (bytes_of 2 (0 ∷ 1 ∷ 2 ∷ 1 ∷ []) (february ++ terms_with (codes "DI1I27") 7)), sheet_import 1)
+    -- a fault comes before the refusal of any line: here account 1 is both sides of line 0
+    ∷ (imported (bytes_of 2 (1 ∷ 1 ∷ 2 ∷ 1 ∷ []) (february ++ terms_with (codes "DI1I27") 7)), sheet_import 1)
+    -- April in the first line
+    ∷ (imported (lines_of_april 256 0 1), book_import 0 2 in_session)
+    -- by a ticket of another book, and of another day
+    ∷ (import_of weekdays in_session (record { number = 2; day = 9860 }) two_lines, book_import 0 1 in_session)
+    ∷ (import_of weekdays in_session (of_day 9861) two_lines, sheet_import 0)
     ∷ []
 
 -- ---- writing
@@ -126,30 +129,26 @@ other_tickets =
 abbrev pub line_in : ℕ → TradeLine
 line_in month = record { buyer = 0; seller = 1; month = month; rate = 10000; quantity = 1 }
 
--- what is told where these lines are not written into an array of so many bytes
-abbrev pub unwritten : ℕ → List TradeLine → Option Reason
-unwritten room lines = option_map write_reason (write_fault room lines)
-
 -- room, months and count
 abbrev pub write_edges : List (Option Reason × Option Reason)
 write_edges =
-    (unwritten 4 [], None)
-    ∷ (unwritten 3 [], refusal 16)
-    ∷ (unwritten 36 (line_in 325 ∷ line_in 326 ∷ []), None)
-    ∷ (unwritten 35 (line_in 325 ∷ line_in 326 ∷ []), refusal 16)
-    ∷ (unwritten 20 (line_in 1199 ∷ []), None)
-    ∷ (unwritten 20 (line_in 1200 ∷ []), refusal 26)
-    ∷ (unwritten 19 (line_in 1200 ∷ []), refusal 16)
-    ∷ (unwritten 4100 (replicate 256 (line_in 325)), None)
-    ∷ (unwritten 4116 (replicate 257 (line_in 325)), refusal 26)
-    ∷ (unwritten 4115 (replicate 257 (line_in 325)), refusal 16)
+    (write_refused 4 [], None)
+    ∷ (write_refused 3 [], refusal 16)
+    ∷ (write_refused 36 (line_in 325 ∷ line_in 326 ∷ []), None)
+    ∷ (write_refused 35 (line_in 325 ∷ line_in 326 ∷ []), refusal 16)
+    ∷ (write_refused 20 (line_in 1199 ∷ []), None)
+    ∷ (write_refused 20 (line_in 1200 ∷ []), refusal 26)
+    ∷ (write_refused 19 (line_in 1200 ∷ []), refusal 16)
+    ∷ (write_refused 4100 (replicate 256 (line_in 325)), None)
+    ∷ (write_refused 4116 (replicate 257 (line_in 325)), refusal 26)
+    ∷ (write_refused 4115 (replicate 257 (line_in 325)), refusal 16)
     ∷ []
 
 -- sheets at their edges
 pub record SheetEdges : Type 0 where
   pub read : Same read_edges
-  pub imported : AllByRecursion (λ c. ImportsTo weekdays in_session (of_day 9860) c.0 c.1) imports
-  pub tickets : AllByRecursion (λ c. ImportsTo weekdays in_session c.0 two_lines c.1) other_tickets
+  pub lines : Same line_edges
+  pub imports : Same import_edges
   pub write : Same write_edges
   -- the bytes of two lines
   pub bytes : sheet_bytes 9860 (record { buyer = 0; seller = 1; month = 325; rate = 10000; quantity = 10 }
