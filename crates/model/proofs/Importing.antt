@@ -5,12 +5,11 @@ use Rattle.std.proofs.lemmas.Bool.{eqb-true, lt-ltb, ltb-true, cases_order}
 use Rattle.std.proofs.lemmas.Bool.Decides.{nat_tests}
 use Rattle.rows.specs.Rows.{Reason, first_row}
 use Rattle.sheet.specs.declared.fault.SheetFault.{SheetFault}
-use Rattle.sheet.specs.declared.fault.SheetFault.TheVariants.{Length, Count, Day, Code}
 use Rattle.sheet.specs.declared.trade_line.TradeLine.{TradeLine}
 use Rattle.sheet.specs.Codes.{place_in}
-use Rattle.sheet.specs.Sheet.{day_of, trades_of, Sheet, OnDay, Refused}
+use Rattle.sheet.specs.Sheet.{trades_of, read_fault}
 use Rattle.model.specs.History.{History, Traded}
-use Rattle.model.specs.Imports.{line_trade, line_rows, Import, book_stop, stopped_or, import_lines, import_fault, ImportsTo, after_lines, AllAccepted, stop_at, InOrder, ImportsHold}
+use Rattle.model.specs.Imports.{line_trade, line_rows, Import, book_stop, stopped_or, import_lines, import_sheet, after_lines, AllAccepted, stop_at, InOrder, ImportsHold}
 use Rattle.model.specs.Lawful.{Allowed, Lawful}
 use Rattle.model.specs.Observed.{months_of, is_account, is_listed}
 use Rattle.model.specs.References.{SessionReference}
@@ -124,46 +123,9 @@ lines-lawful w h ticket n (t ∷ ts) l = by (first_row (line_rows w h ticket t))
 
 -- ---- bytes
 
--- bytes that are refused are no sheet of the day
-refused-none : (day : ℕ) (bytes : List ℕ) (f : SheetFault) → Refused bytes (Some day) f → Sheet bytes → OnDay (Some day) (day_of bytes) → ⊥
-refused-none day bytes Length r s d = (r s.0.0).1 s.0.2
-refused-none day bytes Count r s d = let m = s.0.1 in omega arith
-refused-none day bytes Day r s d = r.1 d
-refused-none day bytes (Code line) r s d = r.4 (s.1 line r.3)
-
--- they have one fault
-same-fault : (bytes : List ℕ) (ticket : Option ℕ) (f g : SheetFault) → Refused bytes ticket f → Refused bytes ticket g → f ≡ g
-same-fault bytes ticket Length Length r s = refl
-same-fault bytes ticket Length Count r s = absurd (let m = (r s.0).0 in let n = s.1 in omega arith)
-same-fault bytes ticket Length Day r s = absurd ((r s.0.0).1 s.0.2)
-same-fault bytes ticket Length (Code b) r s = absurd ((r s.0.0).1 s.0.2)
-same-fault bytes ticket Count Length r s = absurd (let m = (s r.0).0 in let n = r.1 in omega arith)
-same-fault bytes ticket Count Count r s = refl
-same-fault bytes ticket Count Day r s = absurd (let m = s.0.1 in let n = r.1 in omega arith)
-same-fault bytes ticket Count (Code b) r s = absurd (let m = s.0.1 in let n = r.1 in omega arith)
-same-fault bytes ticket Day Length r s = absurd ((s r.0.0).1 r.0.2)
-same-fault bytes ticket Day Count r s = absurd (let m = r.0.1 in let n = s.1 in omega arith)
-same-fault bytes ticket Day Day r s = refl
-same-fault bytes ticket Day (Code b) r s = absurd (r.1 s.1)
-same-fault bytes ticket (Code a) Length r s = absurd ((s r.0.0).1 r.0.2)
-same-fault bytes ticket (Code a) Count r s = absurd (let m = r.0.1 in let n = s.1 in omega arith)
-same-fault bytes ticket (Code a) Day r s = absurd (s.1 r.1)
-same-fault bytes ticket (Code a) (Code b) r s =
-    elim (cases_order a b) [
-      | inl e ↦ ap Code e
-      | inr (inl before) ↦ absurd (r.4 (s.2 a before))
-      | inr (inr after) ↦ absurd (s.4 (r.2 b after))
-    ]
-
-one : (w : World) (h : History) (ticket : SessionReference) (bytes : List ℕ) (i j : Import) → ImportsTo w h ticket bytes i → ImportsTo w h ticket bytes j → i ≡ j
-one w h ticket bytes i j (inl a) (inl b) = a.2 ∙ ap (import_fault h) (same-fault bytes (Some ticket.day) a.0 b.0 a.1 b.1) ∙ sym b.2
-one w h ticket bytes i j (inl a) (inr b) = absurd (refused-none ticket.day bytes a.0 a.1 b.0 b.1)
-one w h ticket bytes i j (inr a) (inl b) = absurd (refused-none ticket.day bytes b.0 b.1 a.0 a.1)
-one w h ticket bytes i j (inr a) (inr b) = a.2 ∙ sym b.2
-
-lawful : (w : World) (h : History) (ticket : SessionReference) (bytes : List ℕ) (i : Import) → Lawful w h → ImportsTo w h ticket bytes i → Lawful w i.history
-lawful w h ticket bytes i l (inl a) = rw a.2 l
-lawful w h ticket bytes i l (inr a) = rw a.2 (lines-lawful w h ticket 0 (trades_of bytes) l)
+lawful : (w : World) (h : History) (ticket : SessionReference) (bytes : List ℕ) (fault : Option SheetFault) → Lawful w h → Lawful w (import_sheet w h ticket bytes fault).history
+lawful w h ticket bytes (Some fault) l = l
+lawful w h ticket bytes None l = lines-lawful w h ticket 0 (trades_of bytes) l
 
 -- ---- the index of a line's month
 
@@ -194,8 +156,7 @@ pub imports-hold : ImportsHold
 imports-hold = record {
   lines = λ w h ticket lines. let o = in-order w h ticket 0 lines in from-start w h ticket lines o.0 (import_lines w h ticket 0 lines) o.1;
   one_order = λ w h ticket lines i j o p. one-from w h ticket 0 lines i.taken j.taken i j (at-start w h ticket lines i o) (at-start w h ticket lines j p);
-  one = one;
-  lawful = lawful;
+  lawful = λ w h ticket bytes l. lawful w h ticket bytes (read_fault bytes (Some ticket.day)) l;
   listed = λ h n. place-listed n (months_of h);
   place = λ h n e. at-place n (months_of h) (ltb-true (place_in (months_of h) n) (length (months_of h)) e);
   unlisted = λ w h ticket t current none.

@@ -1,14 +1,13 @@
--- What an import of a sheet comes to, and why a sheet is not written.
-use Rattle.std.specs.Prelude.{◌≡◌, ℕ, ◌+◌, ◌≤◌, true, false, ◌⊎◌, List, [], ◌∷◌, length, take, drop, Some, None, Option, nat_eq, slice_index}
+-- What an import of a sheet comes to.
+use Rattle.std.specs.Prelude.{◌≡◌, ℕ, ◌+◌, ◌≤◌, true, false, List, [], ◌∷◌, length, take, drop, Some, None, Option, nat_eq, slice_index}
 use Rattle.std.specs.List.{list_any}
 use Rattle.std.specs.Option.{option_map}
 use Rattle.rows.specs.Rows.{Reason, Row, numbered, first_row}
 use Rattle.sheet.specs.Codes.{place_in}
-use Rattle.sheet.specs.Faults.{fault_reason, write_reason}
-use Rattle.sheet.specs.Sheet.{day_of, fault_line, trades_of, Sheet, OnDay, Refused, Unwritten}
+use Rattle.sheet.specs.Faults.{fault_line, fault_reason}
+use Rattle.sheet.specs.Sheet.{trades_of, read_fault}
 use Rattle.sheet.specs.declared.fault.SheetFault.{SheetFault}
 use Rattle.sheet.specs.declared.trade_line.TradeLine.{TradeLine}
-use Rattle.sheet.specs.declared.fault.WriteFault.{WriteFault}
 use Rattle.amounts.specs.declared.trades.Trade.{Trade}
 use Rattle.model.specs.declared.calls.Layer.{Layer}
 use Rattle.model.specs.declared.calls.Layer.TheVariants as layers
@@ -67,17 +66,14 @@ import_lines w h ticket n (t ∷ ts) =
 abbrev pub import_fault : History → SheetFault → Import
 import_fault h fault = record { taken = 0; stop = Some (record { line = fault_line fault; reason = fault_reason fault; layer = layers.Sheet }); history = h }
 
--- what an import of bytes comes to: the first fault of a sheet for the ticket's day, or else what its lines come to
-abbrev pub ImportsTo : World → History → SessionReference → List ℕ → Import → Type 0
-ImportsTo w h ticket bytes i =
-    ((fault : SheetFault) × Refused bytes (Some ticket.day) fault × (i ≡ import_fault h fault))
-    ⊎ (Sheet bytes × OnDay (Some ticket.day) (day_of bytes) × (i ≡ import_lines w h ticket 0 (trades_of bytes)))
+-- bytes with a fault, or else the lines of their sheet
+abbrev pub import_sheet : World → History → SessionReference → List ℕ → Option SheetFault → Import
+import_sheet w h ticket bytes (Some fault) = import_fault h fault
+import_sheet w h ticket bytes None = import_lines w h ticket 0 (trades_of bytes)
 
--- ---- writing
-
--- what is told where a sheet of these trades is not written into so much room
-abbrev pub WriteRefused : ℕ → List TradeLine → Reason → Type 0
-WriteRefused room trades reason = (fault : WriteFault) × Unwritten room trades fault × (reason ≡ write_reason fault)
+-- what an import of bytes comes to, read for the ticket's day
+abbrev pub import_of : World → History → SessionReference → List ℕ → Import
+import_of w h ticket bytes = import_sheet w h ticket bytes (read_fault bytes (Some ticket.day))
 
 -- ---- laws
 
@@ -110,10 +106,8 @@ pub record ImportsHold : Type 0 where
   pub lines : (w : World) (h : History) (ticket : SessionReference) (lines : List TradeLine) → InOrder w h ticket lines (import_lines w h ticket 0 lines)
   -- they come to one thing only
   pub one_order : (w : World) (h : History) (ticket : SessionReference) (lines : List TradeLine) (i j : Import) → InOrder w h ticket lines i → InOrder w h ticket lines j → i ≡ j
-  -- so do any bytes
-  pub one : (w : World) (h : History) (ticket : SessionReference) (bytes : List ℕ) (i j : Import) → ImportsTo w h ticket bytes i → ImportsTo w h ticket bytes j → i ≡ j
   -- the trades that stand leave the history lawful
-  pub lawful : (w : World) (h : History) (ticket : SessionReference) (bytes : List ℕ) (i : Import) → Lawful w h → ImportsTo w h ticket bytes i → Lawful w i.history
+  pub lawful : (w : World) (h : History) (ticket : SessionReference) (bytes : List ℕ) → Lawful w h → Lawful w (import_of w h ticket bytes).history
   -- a line's month has an index in the book exactly if it is listed
   pub listed : (h : History) (n : ℕ) → is_listed h (place_in (months_of h) n) ≡ list_any (nat_eq n) (months_of h)
   -- which is the month's
