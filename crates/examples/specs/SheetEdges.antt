@@ -1,15 +1,17 @@
 -- Imports of trade sheets from their bytes, and sheets that are read and written, at their edges.
 use Rattle.std.specs.Prelude.{◌≡◌, ℕ, ◌+◌, List, [], ◌∷◌, ◌++◌, take, replicate, Some, None, Option, codes}
 use Rattle.std.specs.List.{range_with_len, flat_map}
+use Rattle.std.specs.Option.{option_map}
 use Rattle.rows.specs.Rows.{Reason, numbered}
-use Rattle.sheet.specs.Sheet.{sheet_bytes, read_fault}
+use Rattle.sheet.specs.Faults.{write_reason}
+use Rattle.sheet.specs.Sheet.{sheet_bytes, read_fault, write_fault}
 use Rattle.sheet.specs.declared.fault.SheetFault.{SheetFault}
 use Rattle.sheet.specs.declared.fault.SheetFault.TheVariants.{Length, Count, Day, Code}
 use Rattle.sheet.specs.declared.trade_line.TradeLine.{TradeLine}
 use Rattle.examples.specs.Books.{weekdays, of_day, order, in_session, Same, refusal}
 use Rattle.model.specs.declared.calls.Layer.TheVariants as layers
 use Rattle.model.specs.History.{History, Traded}
-use Rattle.model.specs.Imports.{Import, import_of, write_refused, line_trade}
+use Rattle.model.specs.Imports.{Import, import_of, line_trade}
 use Rattle.model.specs.Observed.{trade_at}
 
 -- ---- bytes
@@ -129,19 +131,23 @@ import_edges =
 abbrev pub line_in : ℕ → TradeLine
 line_in month = record { buyer = 0; seller = 1; month = month; rate = 10000; quantity = 1 }
 
+-- why these lines are not written into an array of so many bytes, if they are not
+abbrev pub write_refusal : ℕ → List TradeLine → Option Reason
+write_refusal room lines = option_map write_reason (write_fault room lines)
+
 -- room, months and count
 abbrev pub write_edges : List (Option Reason × Option Reason)
 write_edges =
-    (write_refused 4 [], None)
-    ∷ (write_refused 3 [], refusal 16)
-    ∷ (write_refused 36 (line_in 325 ∷ line_in 326 ∷ []), None)
-    ∷ (write_refused 35 (line_in 325 ∷ line_in 326 ∷ []), refusal 16)
-    ∷ (write_refused 20 (line_in 1199 ∷ []), None)
-    ∷ (write_refused 20 (line_in 1200 ∷ []), refusal 26)
-    ∷ (write_refused 19 (line_in 1200 ∷ []), refusal 16)
-    ∷ (write_refused 4100 (replicate 256 (line_in 325)), None)
-    ∷ (write_refused 4116 (replicate 257 (line_in 325)), refusal 26)
-    ∷ (write_refused 4115 (replicate 257 (line_in 325)), refusal 16)
+    (write_refusal 4 [], None)
+    ∷ (write_refusal 3 [], refusal 16)
+    ∷ (write_refusal 36 (line_in 325 ∷ line_in 326 ∷ []), None)
+    ∷ (write_refusal 35 (line_in 325 ∷ line_in 326 ∷ []), refusal 16)
+    ∷ (write_refusal 20 (line_in 1199 ∷ []), None)
+    ∷ (write_refusal 20 (line_in 1200 ∷ []), refusal 26)
+    ∷ (write_refusal 19 (line_in 1200 ∷ []), refusal 16)
+    ∷ (write_refusal 4100 (replicate 256 (line_in 325)), None)
+    ∷ (write_refusal 4116 (replicate 257 (line_in 325)), refusal 26)
+    ∷ (write_refusal 4115 (replicate 257 (line_in 325)), refusal 16)
     ∷ []
 
 -- sheets at their edges
