@@ -6,8 +6,8 @@ use Rattle.model.specs.Lawful.{Lawful}
 use Rattle.model.specs.Value.{apart_of, tolerance_of}
 
 -- one contract of February 2027 over a reserve day of the factor 1.00035: the price 9,910,000 becomes 9,913,468.5, and rounding adds half a centavo
-abbrev pub half_up : History
-half_up =
+abbrev pub half_centavo : History
+half_centavo =
     Closed (opposites (pos 31))
     ∷ Marked 0 9913500
     ∷ Paid
@@ -24,6 +24,6 @@ half_up =
 
 -- the two sides of the claim for account 1 in month 0 are equal, and not 0
 pub record FullTolerance : Type 0 where
-  pub lawful : Lawful weekdays half_up
-  pub sides : apart_of weekdays half_up 1 0 ≡ tolerance_of weekdays half_up 1 0
-  pub tolerance : tolerance_of weekdays half_up 1 0 ≡ 1000000000
+  pub lawful : Lawful weekdays half_centavo
+  pub sides : apart_of weekdays half_centavo 1 0 ≡ tolerance_of weekdays half_centavo 1 0
+  pub tolerance : tolerance_of weekdays half_centavo 1 0 ≡ 1000000000

@@ -64,6 +64,8 @@ read_edges =
     -- 9,861
     ∷ (fault_of (0 ∷ 0 ∷ 133 ∷ 38 ∷ []), Some Day)
     ∷ (fault_of (0 ∷ 0 ∷ 133 ∷ 38 ∷ 0 ∷ []), Some Length)
+    -- January 2000 and December 2099
+    ∷ (fault_of (bytes_of 2 (0 ∷ 1 ∷ 2 ∷ 1 ∷ []) (terms_with (codes "DI1F00") 10 ++ terms_with (codes "DI1Z99") 10)), None)
     -- no letter of a month, small letters, no digit; the first line of these
     ∷ (fault_of (bytes_of 1 (0 ∷ 1 ∷ []) (terms_with (codes "DI1I27") 10)), Some (Code 0))
     ∷ (fault_of (bytes_of 1 (0 ∷ 1 ∷ []) (terms_with (codes "di1g27") 10)), Some (Code 0))
@@ -94,32 +96,32 @@ abbrev pub after_march : History
 after_march = Traded (trade_at (order 2 1 1 10000 7) 9838683) ∷ after_february
 
 -- what bytes come to that are imported in the session of 9,860
-abbrev pub imported : List ℕ → Import
-imported bytes = import_of weekdays in_session (of_day 9860) bytes
+abbrev pub import_in_session : List ℕ → Import
+import_in_session bytes = import_of weekdays in_session (of_day 9860) bytes
 
 -- sheets without a fault: the book takes their lines in order until it refuses one
 abbrev pub line_edges : List (Import × Import)
 line_edges =
-    (imported two_lines, whole_import 2 after_march)
+    (import_in_session two_lines, whole_import 2 after_march)
     -- April in the second line
-    ∷ (imported (bytes_of 2 (0 ∷ 1 ∷ 2 ∷ 1 ∷ []) (february ++ terms_with (codes "DI1J27") 7)), book_import 1 2 after_february)
+    ∷ (import_in_session (bytes_of 2 (0 ∷ 1 ∷ 2 ∷ 1 ∷ []) (february ++ terms_with (codes "DI1J27") 7)), book_import 1 2 after_february)
     -- account 1 is both sides of line 1: line 0 stands, and line 2 is not traded
-    ∷ (imported (bytes_of 3 (0 ∷ 1 ∷ 1 ∷ 1 ∷ 2 ∷ 1 ∷ []) (february ++ february ++ march)), book_import 1 4 after_february)
+    ∷ (import_in_session (bytes_of 3 (0 ∷ 1 ∷ 1 ∷ 1 ∷ 2 ∷ 1 ∷ []) (february ++ february ++ march)), book_import 1 4 after_february)
     ∷ []
 
 -- sheets of which no line is traded
 abbrev pub import_edges : List (Import × Import)
 import_edges =
-    (imported (0 ∷ 0 ∷ 132 ∷ 38 ∷ []), whole_import 0 in_session)
+    (import_in_session (0 ∷ 0 ∷ 132 ∷ 38 ∷ []), whole_import 0 in_session)
     -- faults of length, count and day tell line 0, one of a code its line
-    ∷ (imported (two_lines ++ 0 ∷ []), sheet_import 0)
-    ∷ (imported (lines_of_april 257 1 1), sheet_import 0)
-    ∷ (imported (0 ∷ 0 ∷ 133 ∷ 38 ∷ []), sheet_import 0)
-    ∷ (imported (bytes_of 2 (0 ∷ 1 ∷ 2 ∷ 1 ∷ []) (february ++ terms_with (codes "DI1I27") 7)), sheet_import 1)
+    ∷ (import_in_session (two_lines ++ 0 ∷ []), sheet_import 0)
+    ∷ (import_in_session (lines_of_april 257 1 1), sheet_import 0)
+    ∷ (import_in_session (0 ∷ 0 ∷ 133 ∷ 38 ∷ []), sheet_import 0)
+    ∷ (import_in_session (bytes_of 2 (0 ∷ 1 ∷ 2 ∷ 1 ∷ []) (february ++ terms_with (codes "DI1I27") 7)), sheet_import 1)
     -- a fault comes before the refusal of any line: here account 1 is both sides of line 0
-    ∷ (imported (bytes_of 2 (1 ∷ 1 ∷ 2 ∷ 1 ∷ []) (february ++ terms_with (codes "DI1I27") 7)), sheet_import 1)
+    ∷ (import_in_session (bytes_of 2 (1 ∷ 1 ∷ 2 ∷ 1 ∷ []) (february ++ terms_with (codes "DI1I27") 7)), sheet_import 1)
     -- April in the first line
-    ∷ (imported (lines_of_april 256 0 1), book_import 0 2 in_session)
+    ∷ (import_in_session (lines_of_april 256 0 1), book_import 0 2 in_session)
     -- by a ticket of another book, and of another day
     ∷ (import_of weekdays in_session (record { number = 2; day = 9860 }) two_lines, book_import 0 1 in_session)
     ∷ (import_of weekdays in_session (of_day 9861) two_lines, sheet_import 0)
