@@ -1,5 +1,10 @@
-pub mod Busied
-pub mod Caught
-pub mod Edged
-pub mod Exampled
-pub mod Monthly
+mod Answers
+mod Edges
+mod FullTolerance
+mod LawfulSteps
+mod MonthNumbers
+mod MonthToItsEnd
+mod SeveralMonths
+mod SheetEdges
+mod TwoLayers
+mod WrongBooks

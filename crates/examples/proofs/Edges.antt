@@ -1,8 +1,8 @@
 -- The rows at their edges, computed.
 use Rattle.std.proofs.Common.{refl}
 use Rattle.examples.specs.Edges.{EdgesHold}
-use Rattle.examples.proofs.Exampled.{figures}
-use Rattle.examples.proofs.Monthly.{december, december-31, january, january-4}
+use Rattle.examples.proofs.LawfulSteps.{figures}
+use Rattle.examples.proofs.MonthNumbers.{december-30, december-31, january-1, january-4}
 
 pub edges-hold : EdgesHold
 unfolding figures
@@ -12,16 +12,14 @@ edges-hold = record {
   publish = refl;
   arbitrate = refl;
   opens = refl;
-  trade = rw (december, december-31, january, january-4);
+  trade = rw (december-30, december-31, january-1, january-4);
   mark = refl;
   close = refl;
   pay = refl;
   questions = refl;
   prices = refl;
+  tickets = refl;
+  slips = refl;
   accounts = refl;
   months = refl;
-  line = refl;
-  unlisted_line = refl;
-  ticket_back = refl;
-  slip_back = refl;
 }
