@@ -13,7 +13,7 @@ use crate::sheet::{read_sheet, MAX_TRADES};
 const MAX_ACCOUNTS: usize = 32;
 const MAX_MONTHS: usize = 16;
 const MAX_CONTRACTS: u32 = 20_000;
-const MAX_POSITION: i64 = 500_000;
+pub const MAX_POSITION: i64 = 500_000;
 
 #[derive(Clone, PartialEq)]
 pub struct Account {
@@ -241,6 +241,15 @@ impl Book {
         first_at_their_prices(&sold, count) - first_at_their_prices(&bought, count)
     }
 
+    /// For each account a row with one amount for each month.
+    fn rows(&self, amount: impl Fn(usize, usize) -> i64) -> Vec<Vec<i64>> {
+        let mut rows = Vec::new();
+        for account in 0..self.accounts.len() {
+            rows.push((0..self.months.len()).map(|month| amount(account, month)).collect());
+        }
+        rows
+    }
+
     fn sum_of_adjustments(&self, account: usize, counts: impl Fn(&Session) -> bool) -> i64 {
         let mut sum = 0;
         for session in self.sessions.iter().filter(|session| counts(session)) {
@@ -412,14 +421,12 @@ impl Book {
         let factors =
             self.factors(open).map_err(|day| Refusal { number: 15, told: Told::Day(day) })?;
 
-        let mut close = Close { adjustments: Vec::new(), day_trades: Vec::new() };
-        for account in 0..self.accounts.len() {
-            let months = 0..self.months.len();
-            close.adjustments.push(
-                months.clone().map(|month| self.adjustment(open, account, month, &factors)).collect(),
-            );
-            close.day_trades.push(months.map(|month| self.day_trade(open, account, month)).collect());
-        }
+        let close = Close {
+            adjustments: self.rows(|account, month| {
+                self.adjustment(open, account, month, &factors)
+            }),
+            day_trades: self.rows(|account, month| self.day_trade(open, account, month)),
+        };
         self.sessions[open].close = Some(close.clone());
         Ok((SessionReference { number: self.number, day: ticket.day }, close))
     }

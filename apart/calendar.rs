@@ -23,7 +23,7 @@ pub struct Calendar {
 
 impl Calendar {
     /// One byte a day from day 0.
-    pub fn marked(bytes: &[u8]) -> Calendar {
+    pub fn of_marks(bytes: &[u8]) -> Calendar {
         let kind = |day: u32| match bytes.get(day as usize) {
             Some(1) => DayKind::Reserve,
             Some(2) => DayKind::Session,
@@ -33,7 +33,7 @@ impl Calendar {
     }
 
     /// The first exception of a day decides; else Monday to Friday are sessions.
-    pub fn rule(exceptions: &[Exception]) -> Calendar {
+    pub fn of_exceptions(exceptions: &[Exception]) -> Calendar {
         let kind = |day: u32| match exceptions.iter().find(|e| e.day == day) {
             Some(exception) => exception.kind,
             None if day % 7 < 2 => DayKind::Closed, // 0 is Saturday, 1 Sunday

@@ -1181,7 +1181,12 @@ part 'run: day trades'
 call 'open\ntrade 0 1 DI1F27 10 10\ntrade 0 1 DI1F27 11 10\ntrade 1 0 DI1F27 9 15\nmark DI1F27 99925\nclose\n'
 call 'enter 3 3 3\nopen\ntrade 0 1 DI1F27 10 10\ntrade 1 2 DI1F27 10.5 4\ntrade 1 2 DI1F27 10.2 4\ntrade 2 0 DI1F27 10.1 8\nmark DI1F27 99925\nclose\n'
 
-part 'run: two books of one calendar, amounts of many digits'
+part 'run: a corrected price at a half of a centavo, and just under and over one'
+for rate in 13.424633 13.424346 13.424918; do
+  call "open\ntrade 0 1 DI1F27 10 1\nmark DI1F27 10\nclose\npublish 2026-12-30 $rate\nopen\npay\nmark DI1F27 30\nclose\npublish 2026-12-31 $rate\nopen\npay\nclose\n"
+done
+
+part 'run: numbers of many digits'
 journal "${base}book 4294967295 2026-12-30\nenter 4294967295 4294967295 4294967295\nenter 0 0 0\nlist DI1F27\nopen\nimport big.bin\nmark DI1F27 0.01\nclose\nwrite-off\n"
 
 part 'run: positions and counts of one'

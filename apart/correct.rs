@@ -1,7 +1,7 @@
 // The command `correct`: a settlement price corrected over the reserve days of a gap.
 
 use crate::dates::{date_of, read_date};
-use crate::figures::{counted, di_rate_text, factor_text, price_text, read_price};
+use crate::figures::{count_text, di_rate_text, factor_text, price_text, read_price};
 use crate::interest::{correct_day, day_factor, MAX_PRICE};
 use crate::office::read_office;
 
@@ -43,7 +43,7 @@ pub fn correct(office_file: &str, from: &str, to: &str, price: &str) -> Result<S
         let (rate, factor) = (di_rate_text(rate), factor_text(factor));
         print += &row(&date, &rate, source, &factor, &price_text(price));
     }
-    let days = counted(reserve_days.len() as i128, "reserve day");
+    let days = count_text(reserve_days.len() as i128, "reserve day");
     print += &format!("to {to}: {} over {days}\n", price_text(price));
     if let Some(alone) = alone {
         print += &format!("by the last rate alone: {}\n", price_text(alone));

@@ -101,7 +101,7 @@ pub fn thousandths_text(value: i128) -> String {
 }
 
 /// `1 line`, `2 lines`, `-1 line`.
-pub fn counted(count: i128, thing: &str) -> String {
+pub fn count_text(count: i128, thing: &str) -> String {
     if count == 1 || count == -1 {
         format!("{count} {thing}")
     } else {

@@ -26,9 +26,9 @@ use std::env;
 use std::fs;
 use std::process::ExitCode;
 
-use book::{Account, Book, SessionReference};
+use book::{Account, Book, SessionReference, MAX_POSITION};
 use calendar::{Calendar, DayKind, Exception};
-use dates::{code_text, date_of, first_day_of_month, month_of_day, LAST_DAY, LAST_MONTH};
+use dates::{code_text, date_of, month_of_day, LAST_DAY, LAST_MONTH};
 use interest::{trade_price, MAX_DEALT_RATE, MAX_DI_RATE, MAX_PRICE, MAX_RESERVE_DAYS};
 use rates::Rates;
 use sheet::{write_sheet, Sheet, TradeLine, MAX_TRADES};
@@ -172,7 +172,7 @@ fn rule_calendar(dice: &mut Dice, start: u32, lines: &mut Vec<Vec<String>>) -> C
     let kind = |kind| [DayKind::Closed, DayKind::Reserve, DayKind::Session][kind as usize];
     let meant: Vec<Exception> =
         exceptions.iter().map(|&(day, number)| Exception { day, kind: kind(number) }).collect();
-    Calendar::rule(&meant)
+    Calendar::of_exceptions(&meant)
 }
 
 /// The bytes of a marked calendar: any bytes at first, then week after week from the start on, or
@@ -233,7 +233,7 @@ fn make_calendar(
     let bytes = marks(dice, aim, start);
     fs::write(format!("{folder}/{name}.marks"), &bytes).expect("a file of marks");
     lines.push(words(&format!("calendar marked {name}.marks")));
-    Calendar::marked(&bytes)
+    Calendar::of_marks(&bytes)
 }
 
 /// The rates of an office, with their lines.
@@ -275,6 +275,8 @@ struct Maker<'a> {
     /// Whether trades have nothing amiss, as far as can be seen.
     careful: bool,
     start: u32,
+    /// A month around 2,520 reserve days away from the start.
+    far_month: Option<u32>,
     ticket: Option<SessionReference>,
     slip: Option<SessionReference>,
 }
@@ -330,6 +332,7 @@ impl Maker<'_> {
     fn new_month(&mut self) -> u32 {
         let now = month_of_day(self.today()).unwrap_or(0);
         let ahead = match self.aim {
+            Aim::Far if self.dice.chance(70) => return self.far_month.unwrap_or(LAST_MONTH),
             Aim::Far => self.dice.within(78, 125),
             Aim::Wide => self.dice.within(1, 40),
             _ => match self.dice.within(1, 10) {
@@ -397,7 +400,15 @@ impl Maker<'_> {
             Some(&first) if self.aim == Aim::Heavy && self.dice.chance(70) => first,
             _ => self.some_month(),
         };
-        let (rate, quantity) = (self.some_rate(month), self.some_quantity());
+        let (rate, mut quantity) = (self.some_rate(month), self.some_quantity());
+        // What is left up to the limit, or one contract more.
+        let index = self.book.index_of(month);
+        if let Ok(position) = self.book.position(seller as usize, index) {
+            let left = MAX_POSITION - position;
+            if left > 0 && left < 20_000 && self.dice.chance(50) {
+                quantity = left as u32 + self.dice.within(0, 1);
+            }
+        }
         TradeLine { buyer: buyer as u8, seller: seller as u8, month, rate, quantity }
     }
 
@@ -662,6 +673,13 @@ impl Maker<'_> {
             self.rate_all(before);
         }
         self.noise();
+        if self.aim == Aim::Arbitrated {
+            for _ in 0..self.dice.within(0, 6) {
+                let today = self.today();
+                let day = self.dice.within(today, (today + 9).min(LAST_DAY));
+                self.give_rate(day);
+            }
+        }
         if self.dice.chance(15) {
             self.ask();
         }
@@ -802,16 +820,15 @@ fn text_of(dice: &mut Dice, lines: &[Vec<String>]) -> String {
     text
 }
 
-/// A start day from which a far month is around 2,520 reserve days away.
-fn far_start(dice: &mut Dice, calendar: &Calendar, start: u32) -> u32 {
-    let month = month_of_day(start).unwrap_or(0) + dice.within(80, 120);
+/// A start day and a month that is around 2,520 reserve days away from it.
+fn far_start(dice: &mut Dice, calendar: &Calendar, start: u32) -> Option<(u32, u32)> {
+    let month = month_of_day(start)? + dice.within(80, 120);
     if month > LAST_MONTH {
-        return start;
+        return None;
     }
-    let Some(expiry) = calendar.expiry(month) else { return start };
-    let days = calendar.reserve_days(first_day_of_month(0), expiry);
+    let days = calendar.reserve_days(0, calendar.expiry(month)?);
     let back = (MAX_RESERVE_DAYS + dice.within(0, 4)) as usize;
-    days.len().checked_sub(back).map_or(start, |place| days[place])
+    Some((days[days.len().checked_sub(back)?], month))
 }
 
 fn make(folder: &str, seed: u64) {
@@ -821,8 +838,12 @@ fn make(folder: &str, seed: u64) {
     let mut start = start_day(dice);
     let mut lines = Vec::new();
     let calendar = make_calendar(dice, aim, start, folder, &name, &mut lines);
+    let mut far_month = None;
     if aim == Aim::Far {
-        start = far_start(dice, &calendar, start);
+        if let Some((day, month)) = far_start(dice, &calendar, start) {
+            start = day;
+            far_month = Some(month);
+        }
     }
     let rates = make_rates(dice, start, &mut lines);
     let number = if dice.chance(5) { dice.of(&[0, u32::MAX]) } else { dice.within(1, 99) };
@@ -840,6 +861,7 @@ fn make(folder: &str, seed: u64) {
         book: Book::new(calendar, rates, number, start),
         careful: false,
         start,
+        far_month,
         ticket: None,
         slip: None,
     };

@@ -114,8 +114,8 @@ impl OfficeLines {
 
     pub fn office(self) -> Office {
         let calendar = match self.marks {
-            Some(bytes) => Calendar::marked(&bytes),
-            None => Calendar::rule(&self.exceptions),
+            Some(bytes) => Calendar::of_marks(&bytes),
+            None => Calendar::of_exceptions(&self.exceptions),
         };
         Office { calendar, rates: self.rates }
     }

@@ -2,7 +2,7 @@
 
 use crate::calendar::{Calendar, DayKind};
 use crate::dates::{code_text, date_text, month_of_day, LAST_MONTH};
-use crate::figures::{counted, price_text, rate_text};
+use crate::figures::{count_text, price_text, rate_text};
 use crate::interest::{on_tick, trade_price, MAX_DEALT_RATE, MAX_RESERVE_DAYS};
 use crate::office::read_office;
 use crate::sheet::{read_sheet_file, TradeLine};
@@ -90,10 +90,11 @@ pub fn prices(office_file: &str, sheet_file: &str) -> Result<String, String> {
             contracts_not += i128::from(trade.quantity);
         }
     }
-    let lines = counted(lines_priced + lines_not, "line");
-    let contracts = counted(contracts_priced + contracts_not, "contract");
+    let lines = count_text(lines_priced + lines_not, "line");
+    let contracts = count_text(contracts_priced + contracts_not, "contract");
     print += &format!("total: {lines}, {lines_priced} priced, {lines_not} not priced\n");
-    print += &format!("total: {contracts}, {contracts_priced} priced, {contracts_not} not priced\n");
+    print += &format!("total: {contracts}, {contracts_priced} priced, ");
+    print += &format!("{contracts_not} not priced\n");
     print += &month_totals(&sheet.trades);
     Ok(print)
 }
@@ -107,9 +108,9 @@ fn month_totals(trades: &[TradeLine]) -> String {
         if of_month.is_empty() {
             continue;
         }
-        let lines = counted(of_month.len() as i128, "line");
+        let lines = count_text(of_month.len() as i128, "line");
         let quantity = of_month.iter().map(|trade| i128::from(trade.quantity)).sum();
-        let contracts = counted(quantity, "contract");
+        let contracts = count_text(quantity, "contract");
         print += &format!("{}: {lines}, {contracts}\n", code_text(month));
     }
     print

@@ -2,7 +2,7 @@
 
 use crate::book::{Book, Stop};
 use crate::dates::{code_text, date_of};
-use crate::figures::{amount_text, counted, price_text};
+use crate::figures::{amount_text, count_text, price_text};
 use crate::journal::CallLine;
 use crate::refusals::{Refusal, Told};
 use crate::replay::Answer;
@@ -40,7 +40,7 @@ fn answer_text(answer: &Answer) -> String {
         Answer::Opened { day } => format!("session {}", date_of(*day)),
         Answer::Price(price) => price_text(*price),
         Answer::Imported { taken, stop } => {
-            let lines = counted(*taken as i128, "line");
+            let lines = count_text(*taken as i128, "line");
             match stop {
                 None => format!("{lines} taken"),
                 Some(stop) => format!("{lines} taken; {}", stop_text(stop)),
@@ -52,9 +52,10 @@ fn answer_text(answer: &Answer) -> String {
         Answer::WrittenOff { number, day } => {
             format!("book {number}, session {}, written off", date_of(*day))
         }
-        Answer::Position(position) => counted(i128::from(*position), "contract"),
+        Answer::Position(position) => count_text(i128::from(*position), "contract"),
         Answer::Balance { paid, due } => {
-            format!("paid {}, due {}", amount_text(i128::from(*paid)), amount_text(i128::from(*due)))
+            let (paid, due) = (i128::from(*paid), i128::from(*due));
+            format!("paid {}, due {}", amount_text(paid), amount_text(due))
         }
         Answer::Refused(refusal) => refusal.text(),
         Answer::NotHeld(missing) => format!("nothing done: {missing}"),
@@ -68,7 +69,8 @@ fn close_row(account: &str, month: &str, adjustment: &str, day_trade: &str, due:
 
 /// The lines of a call and its answer.
 pub fn text(line: &CallLine, answer: &Answer, book: &Book) -> String {
-    let mut print = format!("{:>5}  {}: {}\n", line.line, line.words.join(" "), answer_text(answer));
+    let words = line.words.join(" ");
+    let mut print = format!("{:>5}  {words}: {}\n", line.line, answer_text(answer));
     if let Answer::Closed { close, due, .. } = answer {
         print += &close_row("account", "month", "adjustment", "day-trade part", "total due");
         for account in 0..book.accounts().len() {
@@ -121,7 +123,8 @@ fn json_answer(answer: &Answer) -> String {
             if let Some(stop) = stop {
                 let Stop { line, refusal, .. } = stop;
                 members += &format!(",\"at\":{line},\"refused\":{}", refusal.number);
-                members += &format!(",\"layer\":\"{}\",\"why\":\"{}\"", layer(stop), refusal.cause());
+                let (layer, cause) = (layer(stop), refusal.cause());
+                members += &format!(",\"layer\":\"{layer}\",\"why\":\"{cause}\"");
             }
             members
         }

@@ -1,7 +1,7 @@
 // The trade sheet: read and written, shown as text and made from it.
 
 use crate::dates::{code_text, date_text, read_code, read_date};
-use crate::figures::{counted, rate_text, read_account, read_dealt_rate, read_number};
+use crate::figures::{count_text, rate_text, read_account, read_dealt_rate, read_number};
 use crate::files::{at_line, lines_of_words, read_file, read_text_file, write_file};
 
 pub const MAX_TRADES: usize = 256;
@@ -180,6 +180,6 @@ pub fn make(text_file: &str, file: &str) -> Result<String, String> {
     let sheet = read_sheet_text(text_file)?;
     let bytes = write_sheet(&sheet);
     write_file(file, &bytes)?;
-    let trades = counted(sheet.trades.len() as i128, "trade");
+    let trades = count_text(sheet.trades.len() as i128, "trade");
     Ok(format!("{file}: {trades}, {} bytes\n", bytes.len()))
 }

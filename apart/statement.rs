@@ -77,7 +77,7 @@ fn check(replay: &Replay, gaps: &[Vec<u64>], account: usize, month: usize) -> Op
 }
 
 /// In thousandths of a centavo, rounded to the nearest, halves up.
-fn rounded(figure: i128) -> String {
+fn thousandths(figure: i128) -> String {
     let thousandth = CENTAVO / 1000;
     let below = figure.div_euclid(thousandth);
     let rest = figure.rem_euclid(thousandth);
@@ -159,10 +159,10 @@ fn check_rows(replay: &Replay) -> String {
             }
             let figures = match check(replay, &gaps, account, month) {
                 Some(Check { adjustments, value, at_most }) => [
-                    rounded(adjustments),
-                    rounded(value),
-                    rounded((adjustments - value).abs()),
-                    rounded(at_most),
+                    thousandths(adjustments),
+                    thousandths(value),
+                    thousandths((adjustments - value).abs()),
+                    thousandths(at_most),
                 ],
                 None => ["-"; 4].map(str::to_string),
             };
