@@ -31,7 +31,7 @@ trade_price r n = trade_price_by (root_of (1000000000 + 10000 * r)) r n
 -- g is the day factor of d millionths of a percent
 pub record DayFactor (d g : ℕ) : Type 0 where
   pub within : d ≤ MAX_DI_RATE
-  pub rule : (f : ℕ) × (Root (1000000000 + 10 * d) f × (g ≡ day_factor_by f))
+  pub by_root : (f : ℕ) × (Root (1000000000 + 10 * d) f × (g ≡ day_factor_by f))
   pub value : g ≡ day_factor d
   pub least : 100000000 ≤ g
   pub most : g ≤ 100275437
@@ -40,7 +40,7 @@ pub record DayFactor (d g : ℕ) : Type 0 where
 pub record TradePrice (r n p : ℕ) : Type 0 where
   pub rate : r ≤ MAX_DEALT_RATE
   pub days : n ≤ MAX_RESERVE_DAYS
-  pub rule : (f : ℕ) × (Root (1000000000 + 10000 * r) f × (p ≡ trade_price_by f r n))
+  pub by_root : (f : ℕ) × (Root (1000000000 + 10000 * r) f × (p ≡ trade_price_by f r n))
   pub value : p ≡ trade_price r n
   pub least : 1 ≤ p
   pub most : p ≤ 10000000

@@ -13,7 +13,7 @@ pub const MAX_DI_RATE: u32 = 99_999_999;
 
 // A factor of nine decimals, rounded to eight.
 fn to_eight_decimals(factor: u64) -> u32
-    requires { factor ≤ 2000000000 }
+    requires { factor ≤ 2 * ONE }
     ensures { result ≡ (factor + 5) / 10 }
 {
     ((factor + 5) / 10) as u32
