@@ -36,7 +36,7 @@ pub fn day_factor(rate: u32) -> Option<u32>
 /// The price after one reserve day of a day factor, or nothing where the product does not fit. The
 /// clause `rounded` is a law of the definition: over any days a corrected price is within half a
 /// centavo for each reserve day of the exact product, each scaled by the days after it.
-#[tactic(auto, using(crate::proofs::Carried::rounded))]
+#[tactic(auto, using(crate::proofs::Corrections::rounded))]
 pub fn correct_day(price: u64, factor: u32) -> Option<u64>
     ensures value { SomeIff result (price * factor + 50000000 < 2 ^ 64) (corrected_day price factor) }
     ensures rounded { Rounded }
