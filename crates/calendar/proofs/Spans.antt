@@ -5,7 +5,7 @@ use Rattle.std.proofs.lemmas.Iterator.Adapters.{option_map_id}
 use Rattle.std.proofs.lemmas.List.{append-nil, length-append}
 use Rattle.std.specs.List.{range_with_len, find}
 use Rattle.calendar.specs.declared.kind.DayKind.{DayKind}
-use Rattle.calendar.specs.declared.kind.DayKind.TheVariants.{Closed}
+use Rattle.calendar.specs.declared.kind.DayKind.TheVariants.{ClosedDay}
 use Rattle.calendar.specs.Kinds.{is_reserve, is_session}
 use Rattle.calendar.specs.Spans.{days_by, reserve_days, first_in, first_session, First}
 
@@ -82,23 +82,23 @@ session-none : (k : ℕ → DayKind) (from to : ℕ) → to ≤ from → first_s
 session-none k from to h = ap first_in (days-none is_session k from to h)
 
 -- past the end of the calendar no day passes
-pub past-last : (k : ℕ → DayKind) → ((d : ℕ) → 36524 < d → k d ≡ Closed) → (t : DayKind → Bool) → t Closed ≡ false → (d : ℕ) → 36525 ≤ d → t (k d) ≡ false
+pub past-last : (k : ℕ → DayKind) → ((d : ℕ) → 36524 < d → k d ≡ ClosedDay) → (t : DayKind → Bool) → t ClosedDay ≡ false → (d : ℕ) → 36525 ≤ d → t (k d) ≡ false
 past-last k ends t e d h = ap t (ends d (omega arith)) ∙ e
 
 -- a count that stops at the end of the calendar
-pub count-ends : (k : ℕ → DayKind) → ((d : ℕ) → 36524 < d → k d ≡ Closed) → (from end to count : ℕ) → count ≡ length (reserve_days k from end)
+pub count-ends : (k : ℕ → DayKind) → ((d : ℕ) → 36524 < d → k d ≡ ClosedDay) → (from end to count : ℕ) → count ≡ length (reserve_days k from end)
     → end ≡ min to 36525 → count ≡ length (reserve_days k from to)
 count-ends k ends from end to count is e =
     is ∙ sym (ap length (days-end is_reserve k 36525 from to (past-last k ends is_reserve refl) ∙ ap (days_by is_reserve k from) (sym e)))
 
 -- a search that stops at the end of the calendar
-pub session-ends : (k : ℕ → DayKind) → ((d : ℕ) → 36524 < d → k d ≡ Closed) → (from to end : ℕ) → end ≡ min to 36525
+pub session-ends : (k : ℕ → DayKind) → ((d : ℕ) → 36524 < d → k d ≡ ClosedDay) → (from to end : ℕ) → end ≡ min to 36525
     → first_session k from to ≡ first_session k from end
 session-ends k ends from to end e =
     ap first_in (days-end is_session k 36525 from to (past-last k ends is_session refl) ∙ ap (days_by is_session k from) (sym e))
 
 -- nothing past the end of the calendar
-pub session-past : (k : ℕ → DayKind) → ((d : ℕ) → 36524 < d → k d ≡ Closed) → (from to : ℕ) → 36524 < from → first_session k from to ≡ None
+pub session-past : (k : ℕ → DayKind) → ((d : ℕ) → 36524 < d → k d ≡ ClosedDay) → (from to : ℕ) → 36524 < from → first_session k from to ≡ None
 session-past k ends from to h = ap first_in (days-never is_session k from to (λ d l. past-last k ends is_session refl d (omega arith)))
 
 -- a day before the first session of the rest is none, if the first day is none
@@ -126,7 +126,7 @@ pub is-first : (k : ℕ → DayKind) (from to : ℕ) (r : Option ℕ) → r ≡ 
 is-first k from to r e = rw e (firsts k (to - from) from to refl)
 
 -- a session is a day of the calendar
-pub first-bound : (k : ℕ → DayKind) → ((d : ℕ) → 36524 < d → k d ≡ Closed) → (from to : ℕ) (r : Option ℕ) → First k from to r → IfSome r (λ d. d ≤ 36524)
+pub first-bound : (k : ℕ → DayKind) → ((d : ℕ) → 36524 < d → k d ≡ ClosedDay) → (from to : ℕ) (r : Option ℕ) → First k from to r → IfSome r (λ d. d ≤ 36524)
 first-bound k ends from to None a = tt
 first-bound k ends from to (Some s) a =
     elim (cases_lt 36524 s) [ inl l ↦ absurd (true≢false (sym a.2 ∙ past-last k ends is_session refl s (omega arith))) | inr l ↦ l ]
@@ -141,7 +141,7 @@ found-first t (d ∷ ds) = by (t d) (found-first t ds)
     by false e = e
 
 -- what a search of a range to the end of the calendar finds
-pub session-found : (k : ℕ → DayKind) → ((d : ℕ) → 36524 < d → k d ≡ Closed) → (from to end : ℕ) (r : Option ℕ) → end ≡ min to 36525
+pub session-found : (k : ℕ → DayKind) → ((d : ℕ) → 36524 < d → k d ≡ ClosedDay) → (from to end : ℕ) (r : Option ℕ) → end ≡ min to 36525
     → option_map (λ d. d) r ≡ find (λ d. is_session (k d)) (range_with_len from (end - from)) → r ≡ first_session k from to
 unfolding days_by
 session-found k ends from to end r e found =

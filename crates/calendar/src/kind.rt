@@ -1,28 +1,28 @@
 // The kinds of days, and what every calendar gives.
 ghost use Rattle.std.specs.Prelude.{◌≡◌, ℕ, ◌<◌};
 ghost use Rattle.calendar.specs.declared.kind.DayKind.{DayKind};
-ghost use Rattle.calendar.specs.declared.kind.DayKind.TheVariants.{Closed};
+ghost use Rattle.calendar.specs.declared.kind.DayKind.TheVariants.{ClosedDay};
 ghost use Rattle.calendar.specs.Kinds.{of_mark, is_reserve, is_session};
 
 // Closed; a reserve day (saque-reserva) without a session; a session, which is a reserve day too.
 #[derive(Clone, Copy, PartialEq, Eq, Debug)]
 pub enum DayKind {
-    Closed,
-    Reserve,
-    Session,
+    ClosedDay,
+    ReserveDay,
+    SessionDay,
 }
 
 impl DayKind {
     pub fn is_reserve(self) -> bool
         ensures { result ≡ is_reserve self }
     {
-        matches!(self, DayKind::Reserve | DayKind::Session)
+        matches!(self, DayKind::ReserveDay | DayKind::SessionDay)
     }
 
     pub fn is_session(self) -> bool
         ensures { result ≡ is_session self }
     {
-        matches!(self, DayKind::Session)
+        matches!(self, DayKind::SessionDay)
     }
 }
 
@@ -34,7 +34,7 @@ pub trait Calendar {
     fn kind(&self, day: u32) -> DayKind
         ensures { result ≡ kinds self.now day };
 
-    ghost ends: { (x : Self) (d : ℕ) → 36524 < d → kinds x d ≡ Closed };
+    ghost ends: { (x : Self) (d : ℕ) → 36524 < d → kinds x d ≡ ClosedDay };
 }
 
 // What a mark says: 1 a reserve day, 2 a session, any other closed.
@@ -43,9 +43,9 @@ impl From<u8> for DayKind {
 
     fn from(mark: u8) -> DayKind {
         match mark {
-            1 => DayKind::Reserve,
-            2 => DayKind::Session,
-            _ => DayKind::Closed,
+            1 => DayKind::ReserveDay,
+            2 => DayKind::SessionDay,
+            _ => DayKind::ClosedDay,
         }
     }
 }

@@ -26,10 +26,10 @@ impl Calendar for MarkedCalendar {
 
     fn kind(&self, day: u32) -> DayKind {
         if day > LAST_DAY {
-            return DayKind::Closed;
+            return DayKind::ClosedDay;
         }
         self.marks
             .get(day as usize)
-            .map_or(DayKind::Closed, |mark| DayKind::from(*mark))
+            .map_or(DayKind::ClosedDay, |mark| DayKind::from(*mark))
     }
 }

@@ -40,8 +40,8 @@ fn kind_of_week(day: u32) -> DayKind
     ensures { result ≡ of_week day }
 {
     match Weekday::of_day(day) {
-        Weekday::Saturday | Weekday::Sunday => DayKind::Closed,
-        _ => DayKind::Session,
+        Weekday::Saturday | Weekday::Sunday => DayKind::ClosedDay,
+        _ => DayKind::SessionDay,
     }
 }
 
@@ -81,11 +81,11 @@ impl Calendar for RuleCalendar {
 
     fn kind(&self, day: u32) -> DayKind {
         if day > LAST_DAY {
-            return DayKind::Closed;
+            return DayKind::ClosedDay;
         }
         self.days
             .get(day as usize)
             .copied()
-            .unwrap_or(DayKind::Closed)
+            .unwrap_or(DayKind::ClosedDay)
     }
 }

@@ -8,7 +8,7 @@ use crate::kind::Calendar;
 use dates::{LAST_DAY, first_day, month_length};
 
 // How many days an office looks ahead for its next session.
-pub const SESSION_REACH: u32 = 60;
+pub const MAX_SESSION_SEARCH_DAYS: u32 = 60;
 
 // The reserve days of a range that ends with the calendar at the latest.
 fn count_days<C: Calendar>(calendar: &C, from: u32, end: u32) -> u32
@@ -57,7 +57,7 @@ pub fn next_session<C: Calendar>(calendar: &C, from: u32) -> Option<u32>
     if from > LAST_DAY {
         return None;
     }
-    first_session(calendar, from, from + SESSION_REACH)
+    first_session(calendar, from, from + MAX_SESSION_SEARCH_DAYS)
 }
 
 // The first day of a month and the first day of the month after it.

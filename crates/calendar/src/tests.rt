@@ -8,12 +8,12 @@ use std::test::Fail;
 fn marks(rt: HostRuntime) -> Result<(), Fail> {
     let calendar = MarkedCalendar::new([0, 1, 2, 3, 255].to_vec(rt.alloc())?);
     let kinds = [
-        (0, DayKind::Closed),
-        (1, DayKind::Reserve),
-        (2, DayKind::Session),
-        (3, DayKind::Closed),
-        (5, DayKind::Closed),
-        (u32::MAX, DayKind::Closed),
+        (0, DayKind::ClosedDay),
+        (1, DayKind::ReserveDay),
+        (2, DayKind::SessionDay),
+        (3, DayKind::ClosedDay),
+        (5, DayKind::ClosedDay),
+        (u32::MAX, DayKind::ClosedDay),
     ];
     for (day, kind) in kinds {
         assert_eq!(rt; calendar.kind(day), kind);
@@ -35,9 +35,9 @@ fn rules(rt: HostRuntime) -> Result<(), Fail> {
         Exception::of_mark(9_864, 9),
     ];
     let calendar = RuleCalendar::new(rt.alloc(), &exceptions)?;
-    assert_eq!(rt; calendar.kind(9_862), DayKind::Closed);
-    assert_eq!(rt; calendar.kind(36_524), DayKind::Session);
-    assert_eq!(rt; calendar.kind(36_525), DayKind::Closed);
+    assert_eq!(rt; calendar.kind(9_862), DayKind::ClosedDay);
+    assert_eq!(rt; calendar.kind(36_524), DayKind::SessionDay);
+    assert_eq!(rt; calendar.kind(36_525), DayKind::ClosedDay);
     assert_eq!(rt; expiry(&calendar, 324), Some(9_865));
     assert_eq!(rt; expiry(&calendar, 1_199), Some(36_494));
     assert_eq!(rt; expiry(&calendar, 1_200), None);

@@ -3,7 +3,7 @@ use Rattle.std.proofs.Common.{◌≡◌, ℕ, zero, suc, ◌+◌, ◌-◌, ◌<�
 use Rattle.std.proofs.lemmas.List.Elements.{filter-append}
 use Rattle.std.proofs.lemmas.List.{append-nil, map-append, length-append}
 use Rattle.calendar.specs.declared.kind.DayKind.{DayKind}
-use Rattle.calendar.specs.declared.kind.DayKind.TheVariants.{Closed}
+use Rattle.calendar.specs.declared.kind.DayKind.TheVariants.{ClosedDay}
 use Rattle.calendar.specs.Kinds.{is_reserve}
 use Rattle.calendar.specs.Spans.{reserve_days, first_in, days_by}
 use Rattle.calendar.proofs.Spans.{days-none, days-more, days-split, days-head, days-end, past-last}
@@ -63,13 +63,13 @@ fewer kinds from day to h l =
     let e = ap length (days-split is_reserve kinds from day to h l) ∙ length-append (reserve_days kinds from day) (reserve_days kinds day to) in omega arith
 
 -- a range has the days that it has up to the end of the calendar
-pub whole : (kinds : ℕ → DayKind) → ((d : ℕ) → 36524 < d → kinds d ≡ Closed) → (from to end : ℕ) → end ≡ min to 36525
+pub whole : (kinds : ℕ → DayKind) → ((d : ℕ) → 36524 < d → kinds d ≡ ClosedDay) → (from to end : ℕ) → end ≡ min to 36525
     → reserve_days kinds from to ≡ reserve_days kinds from end
 whole kinds ends from to end e =
     days-end is_reserve kinds 36525 from to (past-last kinds ends is_reserve refl) ∙ ap (days_by is_reserve kinds from) (sym e)
 
 -- the price on the way stays small enough for one day more
-pub small : (kinds : ℕ → DayKind) → ((d : ℕ) → 36524 < d → kinds d ≡ Closed) → (rates : ℕ → Option ℕ) (from to end day price now : ℕ) → end ≡ min to 36525
+pub small : (kinds : ℕ → DayKind) → ((d : ℕ) → 36524 < d → kinds d ≡ ClosedDay) → (rates : ℕ → Option ℕ) (from to end day price now : ℕ) → end ≡ min to 36525
     → length (reserve_days kinds from to) ≤ 252 → from ≤ day → day < end → price < 4294967296
     → Carried kinds rates from day price now → now ≤ 90000000000
 small kinds ends rates from to end day price now e few h l fits c =
@@ -89,7 +89,7 @@ missing kinds rates from day price now h a-day none c to l =
     ∙ ap (λ b. cond b (day ∷ filter (is_unrated rates) (reserve_days kinds (day + 1) to)) (filter (is_unrated rates) (reserve_days kinds (day + 1) to))) (ap (λ r. not (is_some r)) none))
 
 -- the whole gap is carried
-pub arrived : (kinds : ℕ → DayKind) → ((d : ℕ) → 36524 < d → kinds d ≡ Closed) → (rates : ℕ → Option ℕ) (from to end day price now : ℕ) → end ≡ min to 36525
+pub arrived : (kinds : ℕ → DayKind) → ((d : ℕ) → 36524 < d → kinds d ≡ ClosedDay) → (rates : ℕ → Option ℕ) (from to end day price now : ℕ) → end ≡ min to 36525
     → end ≤ day → (from ≤ end → day ≤ end) → (end ≤ from → now ≡ price) → Carried kinds rates from day price now
     → (first_unrated rates (reserve_days kinds from to) ≡ None) × (now ≡ corrected_price kinds rates from to price)
 arrived kinds ends rates from to end day price now e past upto still c = by (end - from) refl

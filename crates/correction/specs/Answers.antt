@@ -3,8 +3,6 @@ use Rattle.std.specs.Prelude.{◌≡◌, ℕ, ◌+◌, ◌<◌, ◌≤◌, List,
 use Rattle.calendar.specs.declared.kind.DayKind.{DayKind}
 use Rattle.calendar.specs.Spans.{reserve_days}
 use Rattle.dates.specs.Named.{day_text}
-use Rattle.refusal.specs.declared.Refusal.{Refusal}
-use Rattle.refusal.specs.declared.Refusal.TheVariants as refusals
 use Rattle.correction.specs.declared.Uncorrected.{Uncorrected}
 use Rattle.correction.specs.declared.Uncorrected.TheVariants.{TooLong, MissingRate}
 use Rattle.correction.specs.Carrying.{Carried}
@@ -18,11 +16,6 @@ Short kinds from to = length (reserve_days kinds from to) ≤ 252
 abbrev pub Refused : (ℕ → DayKind) → (ℕ → Option ℕ) → ℕ → ℕ → Uncorrected → Type 0
 Refused kinds rates from to TooLong = 252 < length (reserve_days kinds from to)
 Refused kinds rates from to (MissingRate day) = Short kinds from to × (first_unrated rates (reserve_days kinds from to) ≡ Some day)
-
--- the refusal that a cause is
-abbrev pub refusal_of : Uncorrected → Option Refusal
-refusal_of TooLong = None
-refusal_of (MissingRate day) = Some (refusals.MissingRate day)
 
 -- a cause in words
 abbrev pub message : Uncorrected → List ℕ

@@ -4,8 +4,9 @@
 
 ghost use Rattle.std.specs.Prelude.{◌≡◌, ℕ, ◌+◌, ◌≤◌, true, is_some, Some, None, MatchResult};
 ghost use Rattle.interest.specs.Correction.{corrected_day};
+ghost use Rattle.rates.specs.Meanings.{rates_of};
 ghost use Rattle.correction.specs.Gaps.{factor_on};
-ghost use Rattle.correction.specs.Answers.{Short, Answer, DayOn, refusal_of, message};
+ghost use Rattle.correction.specs.Answers.{Short, Answer, DayOn, message};
 ghost use Rattle.correction.specs.Carrying.{Carried};
 ghost use Rattle.correction.specs.declared.Uncorrected.TheVariants.{MissingRate};
 
@@ -14,11 +15,10 @@ use calendar::span::count_reserve_days;
 use dates::{Day, LAST_DAY};
 use interest::{correct_day, day_factor};
 use rates::source::RateSource;
-use refusal::Refusal;
 use std::fmt;
 
 // The most reserve days of a gap: a year of them.
-pub const MOST_DAYS: u32 = 252;
+pub const MAX_GAP_DAYS: u32 = 252;
 
 // The day of a session, a later one, and the price of the session. Its days are those from the
 // first, included, to the other, excluded.
@@ -34,19 +34,6 @@ pub struct Gap {
 pub enum Uncorrected {
     TooLong,
     MissingRate(u32),
-}
-
-impl Uncorrected {
-    // The refusal of a day without a rate; a gap that is too long has none.
-    // Kept: a TryFrom would need an error type that says no more than None.
-    pub fn refusal(self) -> Option<Refusal>
-        ensures { result ≡ refusal_of self }
-    {
-        match self {
-            Uncorrected::TooLong => None,
-            Uncorrected::MissingRate(day) => Some(Refusal::MissingRate(day)),
-        }
-    }
 }
 
 // Kept: a derived Display states no output, which pins the words.
@@ -67,8 +54,8 @@ impl std::error::Error for Uncorrected {}
 fn by_rate<S: RateSource>(source: &S, day: u32, price: u64) -> Result<u64, Uncorrected>
     requires { price ≤ 90000000000 }
     ensures { MatchResult result
-        (λ p. (is_some (S.rates source.now day) ≡ true) × (p ≡ corrected_day price (factor_on (S.rates source.now) day)) × (p ≤ price + 280000000))
-        (λ e. (e ≡ MissingRate day) × (S.rates source.now day ≡ None)) }
+        (λ p. (is_some (rates_of (S.meaning source.now) day) ≡ true) × (p ≡ corrected_day price (factor_on (rates_of (S.meaning source.now)) day)) × (p ≤ price + 280000000))
+        (λ e. (e ≡ MissingRate day) × (rates_of (S.meaning source.now) day ≡ None)) }
 {
     let rate = source.rate(day).ok_or(Uncorrected::MissingRate(day))?;
     let factor = day_factor(rate).unwrap();
@@ -83,7 +70,7 @@ fn day_on<C: Calendar, S: RateSource>(
     carried: u64,
 ) -> Result<u64, Uncorrected>
     requires { carried ≤ 90000000000 }
-    ensures { (from price : ℕ) → from ≤ day → Carried (C.kinds calendar.now) (S.rates source.now) from day price carried → DayOn (C.kinds calendar.now) (S.rates source.now) from day price carried result }
+    ensures { (from price : ℕ) → from ≤ day → Carried (C.kinds calendar.now) (rates_of (S.meaning source.now)) from day price carried → DayOn (C.kinds calendar.now) (rates_of (S.meaning source.now)) from day price carried result }
 {
     if !calendar.kind(day).is_reserve() {
         return Ok(carried);
@@ -94,7 +81,7 @@ fn day_on<C: Calendar, S: RateSource>(
 // The price after the reserve days of a short gap, one by one.
 fn carry<C: Calendar, S: RateSource>(calendar: &C, source: &S, gap: Gap) -> Result<u64, Uncorrected>
     requires { Short (C.kinds calendar.now) gap.from gap.to }
-    ensures { Answer (C.kinds calendar.now) (S.rates source.now) gap.from gap.to gap.price result }
+    ensures { Answer (C.kinds calendar.now) (rates_of (S.meaning source.now)) gap.from gap.to gap.price result }
 {
     let end = gap.to.min(LAST_DAY + 1);
     let mut carried = gap.price as u64;
@@ -111,9 +98,9 @@ pub fn correct<C: Calendar, S: RateSource>(
     source: &S,
     gap: Gap,
 ) -> Result<u64, Uncorrected>
-    ensures { Answer (C.kinds calendar.now) (S.rates source.now) gap.from gap.to gap.price result }
+    ensures { Answer (C.kinds calendar.now) (rates_of (S.meaning source.now)) gap.from gap.to gap.price result }
 {
-    if count_reserve_days(calendar, gap.from, gap.to) > MOST_DAYS {
+    if count_reserve_days(calendar, gap.from, gap.to) > MAX_GAP_DAYS {
         return Err(Uncorrected::TooLong);
     }
     carry(calendar, source, gap)

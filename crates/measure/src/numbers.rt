@@ -1,7 +1,7 @@
 // Numbers of a linear congruential generator.
 ghost use Rattle.std.specs.Prelude.{◌<◌};
 
-use sheet::Trade;
+use sheet::TradeLine;
 
 #[derive(Drop)]
 pub(crate) struct Numbers {
@@ -55,13 +55,13 @@ impl Numbers {
     }
 
     // A trade among 32 accounts, in the 60 months from January 2027 on.
-    pub(crate) fn trade(&mut self) -> Trade {
+    pub(crate) fn trade(&mut self) -> TradeLine {
         let buyer = self.below(32) as u8;
         let seller = self.below(32) as u8;
         let month = 324 + self.below(60);
         let rate = self.below(100_000);
         let quantity = 1 + self.below(20_000);
-        Trade {
+        TradeLine {
             buyer,
             seller,
             month,

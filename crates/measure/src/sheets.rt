@@ -1,11 +1,11 @@
-// Trade sheets written, read back and priced.
+// TradeLine sheets written, read back and priced.
 ghost use Rattle.std.specs.Prelude.{◌≤◌};
 
 use crate::numbers::Numbers;
 use calendar::kind::DayKind;
 use calendar::rule::{Exception, RuleCalendar};
 use pricing::price_trade;
-use sheet::{SheetView, Trade, read, write};
+use sheet::{SheetView, TradeLine, read, write};
 use std::alloc::{AllocError, Global};
 use std::fmt;
 
@@ -32,7 +32,7 @@ impl fmt::Display for Total {
 
 impl Total {
     // Adds a line.
-    fn add(&mut self, calendar: &RuleCalendar, trade: Trade) {
+    fn add(&mut self, calendar: &RuleCalendar, trade: TradeLine) {
         self.lines = self.lines.wrapping_add(1);
         match price_trade(calendar, SESSION as u32, trade) {
             Ok(line) => {
@@ -68,7 +68,7 @@ fn next_sheet(
     calendar: &RuleCalendar,
     numbers: &mut Numbers,
 ) -> Result<(), AllocError> {
-    let trades: Vec<Trade> = (0..line_count(numbers))
+    let trades: Vec<TradeLine> = (0..line_count(numbers))
         .map(|_| numbers.trade())
         .collect(heap)?;
     let mut bytes = vec![in heap; 0u8; 4 + 16 * trades.len()]?;
@@ -84,7 +84,7 @@ fn next_sheet(
 pub(crate) fn sheets(heap: Global, count: u32) -> Result<Total, AllocError> {
     let closed = Exception {
         day: 9_862,
-        kind: DayKind::Closed,
+        kind: DayKind::ClosedDay,
     };
     let calendar = RuleCalendar::new(heap, &[closed])?;
     let mut numbers = Numbers::new();

@@ -8,10 +8,8 @@ use Rattle.interest.specs.declared.prices.Unpriceable.{Unpriceable}
 use Rattle.interest.specs.declared.prices.Unpriceable.TheVariants as prices
 use Rattle.interest.specs.Price.{trade_price}
 use Rattle.interest.specs.Tick.{on_tick}
-use Rattle.refusal.specs.declared.Refusal.{Refusal}
-use Rattle.refusal.specs.declared.Refusal.TheVariants as refusals
-use Rattle.refusal.specs.declared.Refusal.TheVariants.{NoExpiry, BadRate}
-use Rattle.sheet.specs.declared.trade.Trade.{Trade}
+use Rattle.rows.specs.Rows.{first_row}
+use Rattle.sheet.specs.declared.trade_line.TradeLine.{TradeLine}
 use Rattle.pricing.specs.declared.trades.Cause.{Cause}
 use Rattle.pricing.specs.declared.trades.Cause.TheVariants.{NoSession, Expired, RateTooHigh, OffTick, TooFar}
 use Rattle.pricing.specs.declared.trades.PricedTrade.{PricedTrade}
@@ -29,40 +27,30 @@ distance session month = month - month_of session
 abbrev pub days_to : (ℕ → DayKind) → ℕ → ℕ → ℕ
 days_to kinds session month = length (reserve_days kinds session (expiry_day kinds month))
 
--- a test and the cause that it stands for
-pub record Row : Type 0 where
-  pub holds : Bool
-  pub cause : Cause
-
--- the cause of the first row that holds
-abbrev pub first_cause : List Row → Option Cause
-first_cause [] = None
-first_cause (row ∷ rows) = cond row.holds (Some row.cause) (first_cause rows)
-
 -- the causes for which a trade is not priced, in order
-abbrev pub rows : (ℕ → DayKind) → ℕ → Trade → List Row
-rows kinds session trade =
-    record { holds = not (is_some (expiry_of kinds trade.month)); cause = NoSession }
-    ∷ record { holds = nat_le (expiry_day kinds trade.month) session; cause = Expired }
-    ∷ record { holds = nat_lt 99999 trade.rate; cause = RateTooHigh }
-    ∷ record { holds = not (on_tick trade.rate (distance session trade.month)); cause = OffTick }
-    ∷ record { holds = nat_lt 2520 (days_to kinds session trade.month); cause = TooFar }
+abbrev pub pricing_rows : (ℕ → DayKind) → ℕ → TradeLine → List (Bool × Cause)
+pricing_rows kinds session trade =
+    (not (is_some (expiry_of kinds trade.month)), NoSession)
+    ∷ (nat_le (expiry_day kinds trade.month) session, Expired)
+    ∷ (nat_lt 99999 trade.rate, RateTooHigh)
+    ∷ (not (on_tick trade.rate (distance session trade.month)), OffTick)
+    ∷ (nat_lt 2520 (days_to kinds session trade.month), TooFar)
     ∷ []
 
 -- why a trade is not priced, if it is not
-abbrev pub unpriced : (ℕ → DayKind) → ℕ → Trade → Option Cause
-unpriced kinds session trade = first_cause (rows kinds session trade)
+abbrev pub unpriced : (ℕ → DayKind) → ℕ → TradeLine → Option Cause
+unpriced kinds session trade = first_row (pricing_rows kinds session trade)
 
 -- no cause holds
-abbrev pub is_priced : (ℕ → DayKind) → ℕ → Trade → Bool
+abbrev pub is_priced : (ℕ → DayKind) → ℕ → TradeLine → Bool
 is_priced kinds session trade = not (is_some (unpriced kinds session trade))
 
 -- the sides in price: the buyer in rate sells, the seller in rate buys
-abbrev pub turned : Trade → Sides
+abbrev pub turned : TradeLine → Sides
 turned trade = record { buyer = trade.seller; seller = trade.buyer }
 
 -- a trade in price, with the sides turned
-abbrev pub in_price : (ℕ → DayKind) → ℕ → Trade → PricedTrade
+abbrev pub in_price : (ℕ → DayKind) → ℕ → TradeLine → PricedTrade
 in_price kinds session trade = record {
   buyer = (turned trade).buyer;
   seller = (turned trade).seller;
@@ -72,18 +60,10 @@ in_price kinds session trade = record {
 }
 
 -- the answer: the trade in price where no cause holds, else the first cause
-abbrev pub Answer : (ℕ → DayKind) → ℕ → Trade → Result PricedTrade Cause → Type 0
+abbrev pub Answer : (ℕ → DayKind) → ℕ → TradeLine → Result PricedTrade Cause → Type 0
 Answer kinds session trade r =
     MatchResult r (λ p. (unpriced kinds session trade ≡ None) × (p ≡ in_price kinds session trade))
     (λ c. unpriced kinds session trade ≡ Some c)
-
--- the refusal that each cause is
-abbrev pub cause_refusal : Cause → Refusal
-cause_refusal NoSession = NoExpiry
-cause_refusal Expired = refusals.Expired
-cause_refusal RateTooHigh = BadRate
-cause_refusal OffTick = BadRate
-cause_refusal TooFar = refusals.TooFar
 
 -- the cause that a rate without a price is
 abbrev pub unpriceable_cause : Unpriceable → Cause

@@ -1,20 +1,20 @@
 // Lines and contracts of the trades of a sheet, added up over a choice of them.
 ghost use Rattle.std.specs.Prelude.{◌≡◌, ℕ, Bool, true, ◌==◌};
-ghost use Rattle.sheet.specs.declared.trade.Trade.{Trade};
+ghost use Rattle.sheet.specs.declared.trade_line.TradeLine.{TradeLine};
 ghost use Rattle.sheet.specs.Views.{view_trades};
 ghost use Rattle.pricing.specs.Pricing.{is_priced};
 ghost use Rattle.pricing.specs.Tallies.{Tallied};
 
 use crate::trades::price_trade;
 use calendar::kind::Calendar;
-use sheet::{SheetView, Trade};
+use sheet::{SheetView, TradeLine};
 
 // A choice of trades.
 // Kept: of a closure's choice the totals could say only what its `post` says, and callers would owe its `pre`.
 pub trait Pick {
-    ghost picked: { Self → Trade → Bool };
+    ghost picked: { Self → TradeLine → Bool };
 
-    fn picks(&self, trade: Trade) -> bool
+    fn picks(&self, trade: TradeLine) -> bool
         ensures { result ≡ picked self.now trade };
 }
 
@@ -25,7 +25,7 @@ pub struct AnyTrade;
 impl Pick for AnyTrade {
     ghost picked = { λ _ _. true };
 
-    fn picks(&self, _trade: Trade) -> bool {
+    fn picks(&self, _trade: TradeLine) -> bool {
         true
     }
 }
@@ -39,7 +39,7 @@ pub struct InMonth {
 impl Pick for InMonth {
     ghost picked = { λ p t. (t.month == p.month) };
 
-    fn picks(&self, trade: Trade) -> bool {
+    fn picks(&self, trade: TradeLine) -> bool {
         trade.month == self.month
     }
 }
@@ -54,7 +54,7 @@ pub struct OnCalendar<'a, C> {
 impl<C: Calendar> Pick for OnCalendar<'_, C> {
     ghost picked = { λ p t. is_priced (C.Calendar.kinds p.calendar.now) p.session t };
 
-    fn picks(&self, trade: Trade) -> bool {
+    fn picks(&self, trade: TradeLine) -> bool {
         price_trade(self.calendar, self.session, trade).is_ok()
     }
 }

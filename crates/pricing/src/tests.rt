@@ -1,12 +1,11 @@
 use crate::*;
 use calendar::rule::{Exception, RuleCalendar};
 use interest::Unpriceable;
-use refusal::Refusal;
-use sheet::{Trade, read, write};
+use sheet::{TradeLine, read, write};
 use std::test::Fail;
 
-fn trade(month: u32, rate: u32) -> Trade {
-    Trade {
+fn trade(month: u32, rate: u32) -> TradeLine {
+    TradeLine {
         buyer: 0,
         seller: 1,
         month,
@@ -62,7 +61,6 @@ fn causes_said(rt: HostRuntime) -> Result<(), Fail> {
         text.as_str()
             == "month has no session; expired; rate over 99.999 %; rate off the tick; over 2520 reserve days"
     );
-    assert_eq!(rt; Refusal::from(Cause::OffTick), Refusal::BadRate);
     assert_eq!(rt; Cause::from(Unpriceable::TooFar), Cause::TooFar);
     Ok(())
 }

@@ -1,13 +1,12 @@
 // The price of a trade on a calendar, or why it has none.
 ghost use Rattle.std.specs.Prelude.{◌≡◌, Some};
-ghost use Rattle.pricing.specs.Pricing.{Answer, cause_refusal, message, turned, unpriceable_cause};
+ghost use Rattle.pricing.specs.Pricing.{Answer, message, turned, unpriceable_cause};
 
 use calendar::kind::Calendar;
 use calendar::span::{count_reserve_days, expiry};
 use dates::month_of;
 use interest::{MAX_DEALT_RATE, Unpriceable, on_tick, trade_price};
-use refusal::Refusal;
-use sheet::Trade;
+use sheet::TradeLine;
 use std::error::Error;
 use std::fmt;
 
@@ -19,7 +18,7 @@ pub struct Sides {
 }
 
 // The sides of a trade turned into price: a buyer in rate is a seller in price.
-pub fn in_price(trade: Trade) -> Sides
+pub fn in_price(trade: TradeLine) -> Sides
     ensures { result ≡ turned trade }
 {
     Sides {
@@ -78,25 +77,11 @@ impl From<Unpriceable> for Cause {
     }
 }
 
-// The refusal that a cause is.
-impl From<Cause> for Refusal {
-    ghost from_gives = { λ cause refusal. refusal ≡ cause_refusal cause };
-
-    fn from(cause: Cause) -> Refusal {
-        match cause {
-            Cause::NoSession => Refusal::NoExpiry,
-            Cause::Expired => Refusal::Expired,
-            Cause::RateTooHigh | Cause::OffTick => Refusal::BadRate,
-            Cause::TooFar => Refusal::TooFar,
-        }
-    }
-}
-
 // Prices a trade of a session.
 pub fn price_trade<C: Calendar>(
     calendar: &C,
     session: u32,
-    trade: Trade,
+    trade: TradeLine,
 ) -> Result<PricedTrade, Cause>
     ensures { Answer (C.kinds calendar.now) session trade result }
 {

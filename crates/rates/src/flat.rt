@@ -1,11 +1,13 @@
-// One rate on every day.
-ghost use Rattle.rates.specs.Tables.{flat};
+//! One rate on every day.
+ghost use Rattle.rates.specs.Meanings.{plain_meaning};
+ghost use Rattle.rates.specs.Tables.{flat_rate};
 ghost use Rattle.std.proofs.Common.{rules};
 
 use crate::horizon::Horizon;
-use crate::source::{HIGHEST_RATE, RateSource};
+use crate::source::RateSource;
+use interest::MAX_DI_RATE;
 
-// A rate above the highest makes every day none.
+/// A source with one rate on every day of its horizon; a rate above the highest makes every day none.
 // Kept: any 32 bits are taken as a rate by the rules, so there is no Option in its place.
 #[derive(Clone, Copy, PartialEq, Eq, Debug)]
 pub struct FlatSource {
@@ -14,13 +16,7 @@ pub struct FlatSource {
 }
 
 impl RateSource for FlatSource {
-    ghost horizons = { λ x. x.horizon };
-
-    ghost rates = { λ x. flat x.horizon x.rate };
-
-    ghost arbitrated = { λ x. 0 };
-
-    ghost outside = { Prim.search rules };
+    ghost meaning = { λ x. plain_meaning x.horizon (flat_rate x.horizon x.rate) };
 
     ghost bounded = { Prim.search rules };
 
@@ -29,6 +25,6 @@ impl RateSource for FlatSource {
     }
 
     fn rate(&self, day: u32) -> Option<u32> {
-        (self.horizon.holds(day) && self.rate <= HIGHEST_RATE).then_some(self.rate)
+        (self.horizon.holds(day) && self.rate <= MAX_DI_RATE).then_some(self.rate)
     }
 }

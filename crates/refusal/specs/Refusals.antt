@@ -1,36 +1,37 @@
--- The causes of refusals, their numbers, and the first cause of an ordered table.
-use Rattle.std.specs.Prelude.{ℕ, Bool, cond, List, [], ◌∷◌, ◌++◌, Some, None, codes, decimal, Option}
+-- The causes of refusals: what each tells, and its words.
+use Rattle.std.specs.Prelude.{ℕ, List, [], ◌∷◌, ◌++◌, codes, decimal}
+use Rattle.rows.specs.Rows.{Reason, numbered}
 use Rattle.refusal.specs.declared.Refusal.{Refusal}
 use Rattle.refusal.specs.declared.Refusal.TheVariants.{NotCurrent, NoSuchIndex, Expired, SameSides, BadQuantity, BadRate, TooFar, PositionLimit, SessionFull, BadPrice, SessionOpen, NoSession, Unpaid, Unmarked, MissingRate, ArrayShort, NoLaterSession, TableFull, AlreadyThere, NoExpiry, OutsideHorizon, HasRate, RateTooHigh, BadPeriod, ArbitrationFull, BadSheet}
 
--- the number of a cause
-abbrev pub refusal_number : Refusal → ℕ
-refusal_number NotCurrent = 1
-refusal_number NoSuchIndex = 2
-refusal_number Expired = 3
-refusal_number SameSides = 4
-refusal_number BadQuantity = 5
-refusal_number BadRate = 6
-refusal_number TooFar = 7
-refusal_number PositionLimit = 8
-refusal_number SessionFull = 9
-refusal_number BadPrice = 10
-refusal_number SessionOpen = 11
-refusal_number NoSession = 12
-refusal_number Unpaid = 13
-refusal_number (Unmarked month) = 14
-refusal_number (MissingRate day) = 15
-refusal_number ArrayShort = 16
-refusal_number NoLaterSession = 17
-refusal_number TableFull = 18
-refusal_number AlreadyThere = 19
-refusal_number NoExpiry = 20
-refusal_number OutsideHorizon = 21
-refusal_number HasRate = 22
-refusal_number RateTooHigh = 23
-refusal_number BadPeriod = 24
-refusal_number ArbitrationFull = 25
-refusal_number BadSheet = 26
+-- the number of a cause, and the month or the day that it names
+abbrev pub reason_of : Refusal → Reason
+reason_of NotCurrent = numbered 1
+reason_of NoSuchIndex = numbered 2
+reason_of Expired = numbered 3
+reason_of SameSides = numbered 4
+reason_of BadQuantity = numbered 5
+reason_of BadRate = numbered 6
+reason_of TooFar = numbered 7
+reason_of PositionLimit = numbered 8
+reason_of SessionFull = numbered 9
+reason_of BadPrice = numbered 10
+reason_of SessionOpen = numbered 11
+reason_of NoSession = numbered 12
+reason_of Unpaid = numbered 13
+reason_of (Unmarked month) = record { number = 14; values = month ∷ [] }
+reason_of (MissingRate day) = record { number = 15; values = day ∷ [] }
+reason_of ArrayShort = numbered 16
+reason_of NoLaterSession = numbered 17
+reason_of TableFull = numbered 18
+reason_of AlreadyThere = numbered 19
+reason_of NoExpiry = numbered 20
+reason_of OutsideHorizon = numbered 21
+reason_of HasRate = numbered 22
+reason_of RateTooHigh = numbered 23
+reason_of BadPeriod = numbered 24
+reason_of ArbitrationFull = numbered 25
+reason_of BadSheet = numbered 26
 
 -- the cause in words
 abbrev pub cause : Refusal → List ℕ
@@ -61,25 +62,10 @@ cause BadPeriod = codes "period is not 1"
 cause ArbitrationFull = codes "16 days arbitrated already"
 cause BadSheet = codes "bad sheet"
 
--- the month or the day that a refusal names
-abbrev pub value_of : Refusal → Option ℕ
-value_of (Unmarked month) = Some month
-value_of (MissingRate day) = Some day
-value_of r = None
-
 -- what staff read: the cause, and the value where there is one
-abbrev pub with_value : List ℕ → Option ℕ → List ℕ
-with_value words None = words
-with_value words (Some n) = words ++ codes " " ++ decimal n
+abbrev pub with_values : List ℕ → List ℕ → List ℕ
+with_values words [] = words
+with_values words (n ∷ ns) = with_values (words ++ codes " " ++ decimal n) ns
 
 abbrev pub message : Refusal → List ℕ
-message r = with_value (cause r) (value_of r)
-
--- a row of a table of refusals: whether its cause holds, and the refusal
-abbrev pub Row : Type 0
-Row = Bool × Refusal
-
--- the refusal of the first row whose cause holds
-abbrev pub first_row : List Row → Option Refusal
-first_row [] = None
-first_row (row ∷ rows) = cond row.0 (Some row.1) (first_row rows)
+message r = with_values (cause r) (reason_of r).values

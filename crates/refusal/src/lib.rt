@@ -1,9 +1,13 @@
 // Why a call is refused: one cause for the whole project, with its number and a message.
 #![tactic(auto)]
 
-ghost use Rattle.std.specs.Prelude.{◌≡◌, Some};
-ghost use Rattle.refusal.specs.Refusals.{refusal_number, cause, value_of, message};
+ghost use Rattle.std.specs.Prelude.{◌≡◌, Some, slice_get};
+ghost use Rattle.rates.specs.Errors as rate_errors;
+ghost use Rattle.sheet.specs.Faults.{fault_reason, write_reason};
+ghost use Rattle.refusal.specs.Refusals.{reason_of, cause, message};
 
+use rates::error::Error;
+use sheet::{SheetFault, WriteFault};
 use std::fmt;
 
 // An unmarked month comes with its index, a missing rate with its day.
@@ -41,7 +45,7 @@ impl Refusal {
     // The number of the cause.
     // Kept: `u32::from(refusal)` would not say that it is the number of the row.
     pub fn number(self) -> u32
-        ensures { result ≡ refusal_number self }
+        ensures { result ≡ (reason_of self).number }
     {
         match self {
             Refusal::NotCurrent => 1,
@@ -109,7 +113,7 @@ impl Refusal {
 
     // The month or the day that the refusal names.
     fn value(self) -> Option<u32>
-        ensures { result ≡ value_of self }
+        ensures { result ≡ slice_get (reason_of self).values 0 }
     {
         match self {
             Refusal::Unmarked(month) => Some(month),
@@ -133,6 +137,42 @@ impl fmt::Display for Refusal {
 }
 
 impl std::error::Error for Refusal {}
+
+// Tells what the error of the source tells.
+impl From<Error> for Refusal {
+    ghost from_gives = { λ error refusal. reason_of refusal ≡ rate_errors.reason_of error };
+
+    fn from(error: Error) -> Refusal {
+        match error {
+            Error::OutsideHorizon => Refusal::OutsideHorizon,
+            Error::HasRate => Refusal::HasRate,
+            Error::RateTooHigh => Refusal::RateTooHigh,
+            Error::BadPeriod => Refusal::BadPeriod,
+            Error::LayerFull => Refusal::ArbitrationFull,
+        }
+    }
+}
+
+// A sheet that is not read is a bad sheet, whatever its fault.
+impl From<SheetFault> for Refusal {
+    ghost from_gives = { λ fault refusal. reason_of refusal ≡ fault_reason fault };
+
+    fn from(_fault: SheetFault) -> Refusal {
+        Refusal::BadSheet
+    }
+}
+
+// A sheet that is not written.
+impl From<WriteFault> for Refusal {
+    ghost from_gives = { λ fault refusal. reason_of refusal ≡ write_reason fault };
+
+    fn from(fault: WriteFault) -> Refusal {
+        match fault {
+            WriteFault::Short => Refusal::ArrayShort,
+            WriteFault::BadSheet => Refusal::BadSheet,
+        }
+    }
+}
 
 #[cfg(test)]
 mod tests {

@@ -69,9 +69,9 @@ fn new_rates(heap: Global, first: u32, count: u32) -> Result<OfficeRates, AllocE
 
 fn kind_of_day(word: &str) -> Option<DayKind> {
     match word {
-        "closed" => Some(DayKind::Closed),
-        "reserve" => Some(DayKind::Reserve),
-        "session" => Some(DayKind::Session),
+        "closed" => Some(DayKind::ClosedDay),
+        "reserve" => Some(DayKind::ReserveDay),
+        "session" => Some(DayKind::SessionDay),
         _ => None,
     }
 }

@@ -8,7 +8,7 @@ use calendar::kind::Calendar;
 use calendar::span::{count_reserve_days, expiry};
 use dates::Day;
 use pricing::{AnyTrade, InMonth, OnCalendar, Sides, add_up, in_price, price_trade};
-use sheet::{SheetView, Trade};
+use sheet::{SheetView, TradeLine};
 use std::alloc::{AllocError, Global};
 use std::{fmt, fs};
 
@@ -67,7 +67,7 @@ struct Report<'a> {
 impl Report<'_> {
     // The last column: the price, or why there is none.
     // Kept: a column is padded to its width, so its words are a string first.
-    fn price_words(&self, heap: Global, trade: Trade) -> Result<String, AllocError> {
+    fn price_words(&self, heap: Global, trade: TradeLine) -> Result<String, AllocError> {
         match price_trade(self.calendar, self.view.day(), trade) {
             Ok(priced) => {
                 let price = Points {
@@ -92,8 +92,8 @@ impl Report<'_> {
     }
 
     // A line of the sheet.
-    fn row(&self, heap: Global, line: usize, trade: Trade) -> Result<String, AllocError> {
-        let Trade {
+    fn row(&self, heap: Global, line: usize, trade: TradeLine) -> Result<String, AllocError> {
+        let TradeLine {
             buyer,
             seller,
             month,

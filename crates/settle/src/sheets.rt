@@ -3,7 +3,7 @@ use crate::failure::{Complaint, Failure, Source, said, told};
 use crate::figures::{Counted, Fixed, RATE_PLACES, day_of, decimal, number};
 use crate::texts::{Line, lines_of, read_from};
 use dates::Day;
-use sheet::{ContractCode, MOST_TRADES, SheetFault, SheetView, Trade, read, write};
+use sheet::{ContractCode, MAX_TRADES, SheetFault, SheetView, TradeLine, read, write};
 use std::alloc::{AllocError, Global};
 use std::{fmt, fs};
 
@@ -69,12 +69,12 @@ impl fmt::Display for Code {
 // A trade as a line of text.
 #[derive(Clone, Copy)]
 struct TradeLine {
-    trade: Trade,
+    trade: TradeLine,
 }
 
 impl fmt::Display for TradeLine {
     fn fmt<W: fmt::Write>(&self, f: &mut fmt::Formatter<W>) -> fmt::Result {
-        let Trade {
+        let TradeLine {
             buyer,
             seller,
             month,
@@ -122,7 +122,7 @@ fn account(word: &str) -> Option<u8> {
 }
 
 // A trade line.
-fn trade<'a>(words: &[&'a str]) -> Result<Trade, Complaint<'a>> {
+fn trade<'a>(words: &[&'a str]) -> Result<TradeLine, Complaint<'a>> {
     let ["trade", buyer, seller, code, rate, quantity] = words else {
         return Err(Complaint::Words("expected: trade BUYER SELLER CODE RATE QUANTITY"));
     };
@@ -130,7 +130,7 @@ fn trade<'a>(words: &[&'a str]) -> Result<Trade, Complaint<'a>> {
     let seller = told("no account", seller, account(seller))?;
     let contract = ContractCode::from_bytes(code.as_bytes());
     let contract = told("no contract code", code, contract)?;
-    Ok(Trade {
+    Ok(TradeLine {
         buyer,
         seller,
         month: contract.month(),
@@ -140,7 +140,7 @@ fn trade<'a>(words: &[&'a str]) -> Result<Trade, Complaint<'a>> {
 }
 
 // A line after the session line, with so many trades before it.
-fn later_line<'a>(before: usize, words: &[&'a str]) -> Result<Trade, Complaint<'a>> {
+fn later_line<'a>(before: usize, words: &[&'a str]) -> Result<TradeLine, Complaint<'a>> {
     let trade = match words {
         ["trade", ..] => trade(words)?,
         ["session", ..] => return Err(Complaint::Words("a second session")),
@@ -152,13 +152,13 @@ fn later_line<'a>(before: usize, words: &[&'a str]) -> Result<Trade, Complaint<'
         }
         [] => return Err(Complaint::Words("no word")),
     };
-    if before >= MOST_TRADES as usize {
+    if before >= MAX_TRADES as usize {
         return Err(Complaint::Words("over 256 trades"));
     }
     Ok(trade)
 }
 
-fn trades(source: &Source<'_>, lines: &[Line]) -> Result<Vec<Trade>, Failure> {
+fn trades(source: &Source<'_>, lines: &[Line]) -> Result<Vec<TradeLine>, Failure> {
     lines
         .iter()
         .enumerate()
@@ -170,7 +170,7 @@ fn trades(source: &Source<'_>, lines: &[Line]) -> Result<Vec<Trade>, Failure> {
 }
 
 // The bytes of the sheet of these trades.
-fn sheet_bytes(heap: Global, day: u16, trades: &[Trade]) -> Result<Vec<u8>, Complaint<'static>> {
+fn sheet_bytes(heap: Global, day: u16, trades: &[TradeLine]) -> Result<Vec<u8>, Complaint<'static>> {
     let mut bytes = vec![in heap; 0u8; 4 + 16 * trades.len()]?;
     write(day, trades, bytes.as_mut_slice()).map_err(|_| Complaint::Words("no sheet"))?;
     Ok(bytes)

@@ -2,4 +2,4 @@ pub mod Codes
 pub mod Sheet
 pub mod Views
 pub mod Lines
-pub mod Refusals
+pub mod Faults
