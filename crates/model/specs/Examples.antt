@@ -2,7 +2,7 @@
 use Rattle.std.specs.Prelude.{◌≡◌, ℕ, List, [], ◌∷◌, map, length, drop, ℤ, pos, neg_ℤ, Some, None, slice_index_or}
 use Rattle.std.specs.List.{range_with_len}
 use Rattle.calendar.specs.declared.rule.Exception.{Exception}
-use Rattle.calendar.specs.Kinds.{ruled}
+use Rattle.calendar.specs.RuleCalendars.{kinds_of_exceptions}
 use Rattle.calendar.specs.declared.kind.DayKind.TheVariants.{ClosedDay}
 use Rattle.amounts.specs.declared.trades.Trade.{Trade}
 use Rattle.model.specs.declared.accounts.Account.{Account}
@@ -18,7 +18,7 @@ abbrev pub book_over : List Exception → World
 book_over exceptions = record {
   number = 1;
   start = 9860;
-  kinds = ruled exceptions;
+  kinds = kinds_of_exceptions exceptions;
   horizon = record { first = 9860; count = 10 };
   rates = λ _. None;
   arbitrated = 0;

@@ -2,7 +2,7 @@
 use Rattle.std.specs.Prelude.{◌≡◌, ℕ, ◌+◌, ◌<◌, ◌≤◌, true, false, [], ◌∷◌, ◌++◌, length, pos, is_some, Some, None, nat_eq}
 use Rattle.std.specs.List.{AllByRecursion}
 use Rattle.calendar.specs.Kinds.{is_session}
-use Rattle.calendar.specs.Spans.{reserve_days, First}
+use Rattle.calendar.specs.Spans.{reserve_days, IsFirstSession}
 use Rattle.correction.specs.Gaps.{first_unrated}
 use Rattle.pricing.specs.Pricing.{distance}
 use Rattle.amounts.specs.declared.trades.Trade.{Trade}
@@ -19,7 +19,7 @@ use Rattle.model.specs.World.{World}
 abbrev pub SessionsRise : Type 0
 SessionsRise = (w : World) (h : History) (d : ℕ) → Lawful w (Opened d ∷ h)
     → AllByRecursion (λ x. x < d) (opened_days h)
-    × First w.kinds (next_from w (latest_opened h)) (next_from w (latest_opened h) + 60) (Some d)
+    × IsFirstSession w.kinds (next_from w (latest_opened h)) (next_from w (latest_opened h) + 60) (Some d)
 
 -- a rate once known stays, whatever happens
 abbrev pub RatesStay : Type 0
