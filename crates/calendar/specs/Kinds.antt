@@ -1,6 +1,6 @@
 -- The kinds of days.
 use Rattle.std.specs.Prelude.{ℕ, Bool, true, false, cond, ◌==◌, nat_le}
-use Rattle.dates.specs.declared.month.TheConstants.{LAST_DAY}
+use Rattle.dates.specs.declared.TheConstants.{LAST_DAY}
 use Rattle.calendar.specs.declared.kind.DayKind.{DayKind}
 use Rattle.calendar.specs.declared.kind.DayKind.TheVariants.{ClosedDay, ReserveDay, SessionDay}
 

@@ -1,7 +1,7 @@
 -- The days of a range by their kind, the first session of a range, the expiry of a month.
 use Rattle.std.specs.Prelude.{◌≡◌, ℕ, ◌+◌, ◌-◌, ◌<◌, ◌≤◌, Bool, true, false, cond, List, [], ◌∷◌, Some, None, filter, Option, MatchOption, nat_le}
 use Rattle.std.specs.List.{range_with_len}
-use Rattle.dates.specs.declared.month.TheConstants.{LAST_MONTH}
+use Rattle.dates.specs.declared.TheConstants.{LAST_MONTH}
 use Rattle.dates.specs.Months.{first_day}
 use Rattle.calendar.specs.declared.kind.DayKind.{DayKind}
 use Rattle.calendar.specs.Kinds.{is_reserve, is_session}

@@ -1,6 +1,6 @@
 //! The kinds of days, and what every calendar gives.
 ghost use Rattle.std.specs.Prelude.{◌≡◌, ℕ, ◌<◌};
-ghost use Rattle.dates.specs.declared.month.TheConstants.{LAST_DAY};
+ghost use Rattle.dates.specs.declared.TheConstants.{LAST_DAY};
 ghost use Rattle.calendar.specs.declared.kind.DayKind.{DayKind};
 ghost use Rattle.calendar.specs.declared.kind.DayKind.TheVariants.{ClosedDay};
 ghost use Rattle.calendar.specs.Kinds.{kind_of_mark, is_reserve, is_session};

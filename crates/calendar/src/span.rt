@@ -1,7 +1,7 @@
 //! What every calendar decides: the expiry of a month, the reserve days of a range, the next session.
 ghost use Rattle.std.specs.Prelude.{◌≡◌, ℕ, ◌+◌, ◌≤◌, min, length, IfSome};
 ghost use Rattle.std.specs.Option.{SomeIff};
-ghost use Rattle.dates.specs.declared.month.TheConstants.{LAST_MONTH};
+ghost use Rattle.dates.specs.declared.TheConstants.{LAST_MONTH};
 ghost use Rattle.dates.specs.Months.{first_day};
 ghost use Rattle.calendar.specs.Spans.{reserve_days, first_session, expiry_of, IsFirstSession};
 

@@ -4,7 +4,7 @@ use Rattle.std.specs.Fmt.{decimal}
 use Rattle.dates.specs.declared.date.Date.{Date}
 use Rattle.dates.specs.declared.date.DateError.{DateError}
 use Rattle.dates.specs.declared.date.DateError.TheVariants.{Form, NoSuchDate}
-use Rattle.dates.specs.declared.month.TheConstants.{LAST_DAY}
+use Rattle.dates.specs.declared.TheConstants.{LAST_DAY}
 use Rattle.dates.specs.Months.{year_of, first_day, month_of}
 use Rattle.dates.specs.DateParts.{IsDate, day_of, date_text, HasDateForm, IsTextOfNoDate}
 

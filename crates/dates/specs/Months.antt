@@ -1,6 +1,6 @@
 -- The months from January 2000 on, numbered from 0, and the days from 1 January 2000 on, numbered from 0.
 use Rattle.std.specs.Prelude.{ℕ, zero, suc, ◌+◌, ◌/◌, ◌%◌, ◌<◌, ◌≤◌, Bool, cond, ◌||◌, ◌==◌, nat_le}
-use Rattle.dates.specs.declared.month.TheConstants.{LAST_MONTH}
+use Rattle.dates.specs.declared.TheConstants.{LAST_MONTH}
 
 -- the years from 2000 to 2099 that divide by 4 are leap years
 abbrev pub leap_year : ℕ → Bool

@@ -1,6 +1,6 @@
 //! Dates from 1 January 2000 to 31 December 2099, their day numbers and their texts.
 ghost use Rattle.std.specs.Prelude.{◌≡◌, ℕ, ◌+◌, ◌-◌, ◌<◌, ◌≤◌, Some, MatchOption};
-ghost use Rattle.dates.specs.declared.month.TheConstants.{LAST_DAY, LAST_MONTH};
+ghost use Rattle.dates.specs.declared.TheConstants.{LAST_DAY, LAST_MONTH};
 ghost use Rattle.dates.specs.Months.{month_length, first_day};
 ghost use Rattle.dates.specs.DateParts.{month_number, IsDate, AreDigitsOf, HasNumbers, HasDateForm};
 

@@ -8,5 +8,11 @@ mod tests;
 mod weekday;
 
 pub use date::{Date, DateError, Day};
-pub use month::{LAST_DAY, LAST_MONTH, first_day, month_length, month_of};
+pub use month::{first_day, month_length, month_of};
 pub use weekday::Weekday;
+
+/// The number of 31 December 2099. Day 0 is Saturday, 1 January 2000.
+pub const LAST_DAY: u32 = 36_524;
+
+/// The number of December 2099. Month 0 is January 2000.
+pub const LAST_MONTH: u32 = 1_199;

@@ -3,11 +3,7 @@ ghost use Rattle.std.specs.Prelude.{◌≡◌, ℕ, ◌+◌, ◌<◌, ◌≤◌,
 ghost use Rattle.std.specs.Option.{SomeIff};
 ghost use Rattle.dates.specs.Months.{days_in, month_length, first_day, month_of, Holds};
 
-/// The number of 31 December 2099. Day 0 is Saturday, 1 January 2000.
-pub const LAST_DAY: u32 = 36_524;
-
-/// The number of December 2099. Month 0 is January 2000.
-pub const LAST_MONTH: u32 = 1_199;
+use crate::{LAST_DAY, LAST_MONTH};
 
 // The days before each month of a common year.
 const BEFORE: [u32; 12] = [0, 31, 59, 90, 120, 151, 181, 212, 243, 273, 304, 334];

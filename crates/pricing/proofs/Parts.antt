@@ -1,6 +1,6 @@
 -- The lines and contracts of the trades so far, and of the trades that are left.
 use Rattle.std.proofs.Common.{◌≡◌, ℕ, ◌+◌, ◌*◌, ◌≤◌, Bool, List, length, sum_by, filter}
-use Rattle.sheet.specs.declared.trade.TradeLine.{TradeLine}
+use Rattle.sheet.specs.declared.trade_line.TradeLine.{TradeLine}
 
 -- what was added up of the trades that pass a test makes, with what is left, the whole; and it fits
 pub record Part (P : TradeLine → Bool) (all left : List TradeLine) (lines contracts : ℕ) : Type 0 where

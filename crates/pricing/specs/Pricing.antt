@@ -9,7 +9,7 @@ use Rattle.interest.specs.declared.prices.Unpriceable.TheVariants as prices
 use Rattle.interest.specs.Price.{trade_price}
 use Rattle.interest.specs.Tick.{on_tick}
 use Rattle.rows.specs.Rows.{first_row}
-use Rattle.sheet.specs.declared.trade.TradeLine.{TradeLine}
+use Rattle.sheet.specs.declared.trade_line.TradeLine.{TradeLine}
 use Rattle.pricing.specs.declared.trades.Cause.{Cause}
 use Rattle.pricing.specs.declared.trades.Cause.TheVariants.{NoSession, Expired, RateTooHigh, OffTick, TooFar}
 use Rattle.pricing.specs.declared.trades.PricedTrade.{PricedTrade}

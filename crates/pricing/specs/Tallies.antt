@@ -1,6 +1,6 @@
 -- What a tally of trades says.
 use Rattle.std.specs.Prelude.{◌≡◌, Bool, List, length, sum_by, filter}
-use Rattle.sheet.specs.declared.trade.TradeLine.{TradeLine}
+use Rattle.sheet.specs.declared.trade_line.TradeLine.{TradeLine}
 use Rattle.pricing.specs.declared.sums.Tally.{Tally}
 
 -- the lines and the contracts of the trades that pass a test

@@ -1,6 +1,6 @@
 // Lines and contracts of the trades of a sheet, added up over a choice of them.
 ghost use Rattle.std.specs.Prelude.{◌≡◌, ℕ, Bool, true, ◌==◌};
-ghost use Rattle.sheet.specs.declared.trade.TradeLine.{TradeLine};
+ghost use Rattle.sheet.specs.declared.trade_line.TradeLine.{TradeLine};
 ghost use Rattle.sheet.specs.Views.{view_trades};
 ghost use Rattle.pricing.specs.Pricing.{is_priced};
 ghost use Rattle.pricing.specs.Tallies.{Tallied};

@@ -1,6 +1,6 @@
 -- What a list of arbitrated days says.
 use Rattle.std.specs.Prelude.{ℕ, Bool, true, cond, ◌&&◌, List, [], ◌∷◌, Some, None, Option, ◌==◌, nat_le}
-use Rattle.interest.specs.declared.prices.TheConstants.{MAX_DI_RATE}
+use Rattle.interest.specs.declared.di_rates.TheConstants.{MAX_DI_RATE}
 use Rattle.rates.specs.declared.entry.DayRate.{DayRate}
 
 -- no rate of the list is over the highest

@@ -1,6 +1,6 @@
 -- What a publication and an arbitration do to what a source means.
 use Rattle.std.specs.Prelude.{◌≡◌, ℕ, true, false, not, List, [], ◌∷◌, ◌++◌, length, is_some, is_ok, None, Option, Result, ◌==◌, nat_le, nat_lt}
-use Rattle.interest.specs.declared.prices.TheConstants.{MAX_DI_RATE}
+use Rattle.interest.specs.declared.di_rates.TheConstants.{MAX_DI_RATE}
 use Rattle.rows.specs.Rows.{Row, first_row, reason_by, numbered}
 use Rattle.rates.specs.declared.entry.DayRate.{DayRate}
 use Rattle.rates.specs.declared.error.Error.{Error}

@@ -2,7 +2,7 @@
 use Rattle.std.specs.Prelude.{◌≡◌, ℕ, ◌≤◌, true, List, [], ◌∷◌, ◌++◌, Some}
 use Rattle.std.proofs.Common.{arith}
 use Rattle.std.proofs.lemmas.Bool.Decides.{nat_tests}
-use Rattle.interest.specs.declared.prices.TheConstants.{MAX_DI_RATE}
+use Rattle.interest.specs.declared.di_rates.TheConstants.{MAX_DI_RATE}
 use Rattle.rates.specs.declared.entry.DayRate.{DayRate}
 use Rattle.rates.specs.ArbitratedDays.{within_limit, arbitrated_rate}
 use Rattle.rates.specs.Meanings.{Meaning, rates_of, under}

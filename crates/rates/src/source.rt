@@ -1,6 +1,6 @@
 //! What every source of rates gives, and what one does that publishes or arbitrates.
 ghost use Rattle.std.specs.Prelude.{◌≡◌, ℕ, ◌≤◌, Some};
-ghost use Rattle.interest.specs.declared.prices.TheConstants.{MAX_DI_RATE};
+ghost use Rattle.interest.specs.declared.di_rates.TheConstants.{MAX_DI_RATE};
 ghost use Rattle.rows.specs.Rows.{first_row, reason_by};
 ghost use Rattle.rates.specs.Errors.{reason_of};
 ghost use Rattle.rates.specs.Meanings.{Meaning, rates_of};

@@ -3,7 +3,7 @@ use crate::failure::{Complaint, Failure, Source, said, told};
 use crate::figures::{Counted, Fixed, RATE_PLACES, day_of, decimal, number};
 use crate::texts::{Line, lines_of, read_from};
 use dates::Day;
-use sheet::{ContractCode, MOST_TRADES, SheetFault, SheetView, TradeLine, read, write};
+use sheet::{ContractCode, MAX_TRADES, SheetFault, SheetView, TradeLine, read, write};
 use std::alloc::{AllocError, Global};
 use std::{fmt, fs};
 
@@ -152,7 +152,7 @@ fn later_line<'a>(before: usize, words: &[&'a str]) -> Result<TradeLine, Complai
         }
         [] => return Err(Complaint::Words("no word")),
     };
-    if before >= MOST_TRADES as usize {
+    if before >= MAX_TRADES as usize {
         return Err(Complaint::Words("over 256 trades"));
     }
     Ok(trade)

@@ -1,11 +1,16 @@
 -- A month's code names that month, and no other. Assumes nothing.
-use Rattle.std.proofs.Common.{◌≡◌, ℕ, ◌+◌, ◌*◌, ◌/◌, ◌%◌, ◌<◌, ◌≤◌, true, eqb, List, [], ◌∷◌, ◌++◌, length, get_or, decimal, sym, refl, ap, ◌∙◌, arith}
+use Rattle.std.proofs.Common.{◌≡◌, ℕ, ◌+◌, ◌*◌, ◌/◌, ◌%◌, ◌<◌, ◌≤◌, true, eqb, leb, List, [], ◌∷◌, ◌++◌, length, get_or, decimal, is_some, Some, None, Option, Decides, MatchOption, sym, refl, ap, ◌∙◌, arith}
 use lib.Utf8.{encode}
 use Rattle.std.proofs.lemmas.Str.Ascii.{encode_ascii}
 use Rattle.std.proofs.lemmas.Fmt.{decimal_digit}
 use Rattle.std.proofs.lemmas.List.FromFn.{fill_by_all}
-use Rattle.std.proofs.lemmas.Bool.{eqb-true, agree_below_at}
-use Rattle.sheet.specs.Codes.{letters, letter_of, last_month, code_bytes, Names, NoCode, place_in, month_of, IsCode}
+use Rattle.std.proofs.lemmas.Bool.{eqb-true, leb-true, le-leb, false_from_ne_true, agree_below_at}
+use Rattle.std.proofs.lemmas.Bool.Decides.{Decides-and}
+use Rattle.std.proofs.lemmas.Slice.Eq.{bytes_eq-Decides}
+use Rattle.std.specs.Str.{bytes_eq}
+use Rattle.dates.specs.declared.TheConstants.{LAST_MONTH}
+use Rattle.sheet.specs.declared.code.ContractCode.{ContractCode}
+use Rattle.sheet.specs.Codes.{letters, letter_of, code_bytes, Names, NoCode, place_in, month_of, is_code}
 
 -- a byte that is no digit, where the year's digits stand
 pub no-tens : (b : List ℕ) → ((d : ℕ) → d < 10 → get_or b 4 0 ≡ 48 + d → ⊥) → NoCode b
@@ -27,18 +32,29 @@ code-made l t o hl ht ho =
 pub place-letter : (l : ℕ) → l < 12 → place_in letters (letter_of l) ≡ l
 place-letter l h = eqb-true (place_in letters (letter_of l)) l (agree_below_at (λ k. eqb (place_in letters (letter_of k)) k) (λ _. true) 12 l refl h)
 
-pub month-back : (m : ℕ) → m ≤ last_month → month_of (code_bytes m) ≡ m
+pub month-back : (m : ℕ) → m ≤ LAST_MONTH → month_of (code_bytes m) ≡ m
 month-back m h =
     let p = place-letter (m % 12) (omega arith) in
     omega arith
 
-pub is_code : (m : ℕ) → m ≤ last_month → IsCode (code_bytes m)
-is_code m h =
+-- the code of a month: the bytes name a month, and are its code
+pub decides-code : (b : List ℕ) → Decides (is_code b) ((month_of b ≤ LAST_MONTH) × (b ≡ code_bytes (month_of b)))
+decides-code b =
+    Decides-and (leb (month_of b) LAST_MONTH) (bytes_eq b (code_bytes (month_of b)))
+    (leb-true (month_of b) LAST_MONTH, le-leb (month_of b) LAST_MONTH) (bytes_eq-Decides b (code_bytes (month_of b)))
+
+pub code-back : (m : ℕ) → m ≤ LAST_MONTH → is_code (code_bytes m) ≡ true
+code-back m h =
     let e = month-back m h in
-    (omega arith, ap code_bytes (sym e))
+    (decides-code (code_bytes m)).1 (omega arith, ap code_bytes (sym e))
+
+-- reading a code tests the bytes
+pub code-tested : (b : List ℕ) (r : Option ContractCode) → MatchOption r (NoCode b) (λ c. Names b c.month) → is_some r ≡ is_code b
+code-tested b None h = sym (false_from_ne_true (is_code b) (λ is. let d = (decides-code b).0 is in h (month_of b) d.0 d.1))
+code-tested b (Some c) h = sym (ap is_code h.0 ∙ code-back c.month c.coded)
 
 -- a month's bytes are the code of no other month
-pub names-only : (b : List ℕ) (m : ℕ) → m ≤ last_month → b ≡ code_bytes m → Names b m
+pub names-only : (b : List ℕ) (m : ℕ) → m ≤ LAST_MONTH → b ≡ code_bytes m → Names b m
 names-only b m h e =
     let n : m ≡ month_of b = sym (ap month_of e ∙ month-back m h) in
     (e, n, λ k le d. let x : k ≡ month_of b = sym (ap month_of d ∙ month-back k le) in x ∙ sym n)

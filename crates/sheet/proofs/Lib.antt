@@ -3,3 +3,4 @@ pub mod Bytes
 pub mod Rows
 pub mod SheetLaws
 pub mod ReadLaws
+pub mod Places

@@ -1,17 +1,21 @@
 -- What is written is read as its trades, and what is read is written as its bytes. Assumes nothing.
-use Rattle.std.proofs.Common.{◌≡◌, ℕ, ◌+◌, ◌-◌, ◌*◌, ◌^◌, ◌<◌, ◌≤◌, List, [], ◌++◌, length, get_or, take, drop, Some, None, sym, refl, ap, ◌∙◌, subst, arith}
+use Rattle.std.proofs.Common.{◌≡◌, ℕ, ◌+◌, ◌-◌, ◌*◌, ◌^◌, ◌<◌, ◌≤◌, Bool, true, false, leb, Decides, List, [], ◌++◌, length, get_or, take, drop, Some, None, sym, refl, ap, ◌∙◌, subst, arith}
 use borrow.Rule.Slice.PartMut.{put_mid}
 use lib.Lanes.{chunk}
-use Rattle.std.specs.List.{flat_map, AllByRecursion, slice_get}
+use Rattle.std.specs.List.{flat_map, list_all, AllByRecursion, slice_get}
+use Rattle.std.proofs.lemmas.Bool.{leb-true, le-leb, le-ltb}
+use Rattle.std.proofs.lemmas.Bool.Decides.{Decides-and, not_from_Decides}
 use Rattle.std.proofs.lemmas.List.FromFn.{fill_by_all, length-map-range_with_len, get_or-map-range_with_len}
-use Rattle.std.proofs.ByRecursion.{All-take, All-drop, All-get_or, All-from_get_or}
+use Rattle.std.proofs.ByRecursion.{Decides-by_and, All-take, All-drop, All-get_or, All-from_get_or}
 use Rattle.std.proofs.lemmas.Simd.{length-chunk, chunk-drop}
 use Rattle.std.proofs.lemmas.List.{length-append, length-drop, append-nil, take_all, take-append-drop, same_lists}
 use Rattle.std.proofs.lemmas.Option.{slice_get-get_or, slice_get_past}
-use Rattle.sheet.specs.declared.trade.TradeLine.{TradeLine}
-use Rattle.sheet.specs.Codes.{code_bytes, last_month, month_of, IsCode}
-use Rattle.sheet.specs.Sheet.{little, number, sides, terms, sheet_bytes, most_trades, FitsLine, Valid, count_of, day_of, sides_at, terms_at, code_of, trade_from, lines_of, trades_of, Sheet}
-use Rattle.sheet.proofs.CodeLaws.{month-back, is_code}
+use Rattle.sheet.specs.declared.trade_line.TradeLine.{TradeLine}
+use Rattle.dates.specs.declared.TheConstants.{LAST_MONTH}
+use Rattle.sheet.specs.declared.trade_line.TheConstants.{MAX_TRADES}
+use Rattle.sheet.specs.Codes.{code_bytes, month_of, is_code}
+use Rattle.sheet.specs.Sheet.{little, number, sides, terms, sheet_bytes, are_listable, write_fault, FitsLine, Valid, count_of, day_of, sides_at, terms_at, code_of, trade_from, lines_of, trades_of}
+use Rattle.sheet.proofs.CodeLaws.{month-back, decides-code, code-back}
 use Rattle.sheet.proofs.Bytes.{number-little, little-number, number-below, chunk-past, chunk-chunk, chunk-split}
 use Rattle.sheet.proofs.Rows.{length-joined, row-joined, joined-rows, three-parts}
 
@@ -44,7 +48,7 @@ pub same-trade : (t : TradeLine) (m r q : ℕ) → m ≡ t.month → r ≡ t.rat
     → record { buyer = t.buyer; seller = t.seller; month = m; rate = r; quantity = q } ≡ t
 same-trade t m r q em er eq = λ i. record { buyer = t.buyer; seller = t.seller; month = em i; rate = er i; quantity = eq i }
 
-pub trade-back : (t : TradeLine) → FitsLine t → t.month ≤ last_month → trade_from (sides t) (terms t) ≡ t
+pub trade-back : (t : TradeLine) → FitsLine t → t.month ≤ LAST_MONTH → trade_from (sides t) (terms t) ≡ t
 trade-back t f m =
     same-trade t (month_of (code_bytes t.month)) (number (little 4 t.rate)) (number (little 4 t.quantity))
     (month-back t.month m) (number-little 4 t.rate (omega arith)) (number-little 4 t.quantity (omega arith))
@@ -52,14 +56,14 @@ trade-back t f m =
 pub sides-back : (s t : List ℕ) → length s ≡ 2 → sides (trade_from s t) ≡ s
 sides-back s t e = sym (fill_by_all (λ k. get_or s k 0) s 2 0 e (λ _ _. refl))
 
-pub terms-back : (s t : List ℕ) → length t ≡ 14 → Bytes t → IsCode (take 6 t) → terms (trade_from s t) ≡ t
+pub terms-back : (s t : List ℕ) → length t ≡ 14 → Bytes t → is_code (take 6 t) ≡ true → terms (trade_from s t) ≡ t
 terms-back s t e b c =
     let x = chunk-split 6 4 4 t in
     let y = take-append-drop 6 t in
     let z : chunk 6 8 t ≡ drop 6 t = take_all 8 (drop 6 t) (rw length-drop (omega arith)) in
     same-three (code_bytes (month_of (take 6 t))) (little 4 (number (chunk 6 4 t))) (little 4 (number (chunk 10 4 t)))
     (take 6 t) (chunk 6 4 t) (chunk 10 4 t)
-    (sym c.1) (little-chunk 6 4 t b (omega arith)) (little-chunk 10 4 t b (omega arith))
+    (sym ((decides-code (take 6 t)).0 c).1) (little-chunk 6 4 t b (omega arith)) (little-chunk 10 4 t b (omega arith))
     ∙ ap (λ (l : List ℕ). take 6 t ++ l) (sym x ∙ z) ∙ y
 
 -- ---- lines
@@ -125,7 +129,7 @@ terms-at day ts d i h =
     ∙ row-joined terms 14 wide-terms ts d [] i h
 
 -- the count and the day that were written
-pub count_at : (day : ℕ) (ts : List TradeLine) → length ts ≤ most_trades → count_of (sheet_bytes day ts) ≡ length ts
+pub count_at : (day : ℕ) (ts : List TradeLine) → length ts ≤ MAX_TRADES → count_of (sheet_bytes day ts) ≡ length ts
 unfolding sheet_bytes
 count_at day ts h = number-little 2 (length ts) (omega arith)
 
@@ -133,15 +137,42 @@ pub day-at : (day : ℕ) (ts : List TradeLine) → day < 2 ^ 16 → day_of (shee
 unfolding sheet_bytes
 day-at day ts h = number-little 2 day (omega arith)
 
--- what is written is framed, has a code on each line, and is read as its day and its trades
+-- few trades, each in a month that has a code
+abbrev pub Listable : List TradeLine → Type 0
+Listable ts = (length ts ≤ MAX_TRADES) × AllByRecursion (λ t. t.month ≤ LAST_MONTH) ts
+
+pub decides-listable : (ts : List TradeLine) → Decides (are_listable ts) (Listable ts)
+decides-listable ts =
+    Decides-and (leb (length ts) MAX_TRADES) (list_all (λ t. leb t.month LAST_MONTH) ts)
+    (leb-true (length ts) MAX_TRADES, le-leb (length ts) MAX_TRADES)
+    (Decides-by_and (λ t. leb t.month LAST_MONTH) (λ t. t.month ≤ LAST_MONTH) (list_all (λ t. leb t.month LAST_MONTH))
+    (λ t. (leb-true t.month LAST_MONTH, le-leb t.month LAST_MONTH)) refl (λ _ _. refl) ts)
+
+-- room enough and trades that make a sheet: nothing is at fault
+pub writable : (room : ℕ) (ts : List TradeLine) (r : Bool) → Decides r (room < 4 + 16 * length ts) → r ≡ false → are_listable ts ≡ true → None ≡ write_fault room ts
+writable room ts r short is listed =
+    let fits = not_from_Decides r short is in
+    let e = le-ltb room (4 + 16 * length ts) (omega arith) in
+    rw (e, listed)
+
+-- bytes whose count is in range, whose length is that of so many trades, and that have a code on each line
+pub record IsSheet (b : List ℕ) : Type 0 where
+  pub few : count_of b ≤ MAX_TRADES
+  pub long : length b ≡ 4 + 16 * count_of b
+  pub coded : (line : ℕ) → line < count_of b → is_code (code_of b line) ≡ true
+
+-- what is written is a sheet, and is read as its day and its trades
 pub record Back (day : ℕ) (ts : List TradeLine) : Type 0 where
-  pub sheet : Sheet (sheet_bytes day ts)
+  pub sheet : IsSheet (sheet_bytes day ts)
   pub day-back : day_of (sheet_bytes day ts) ≡ day
   pub trades-back : trades_of (sheet_bytes day ts) ≡ ts
 
 module _ (day : ℕ) (ts : List TradeLine) (v : Valid day ts) where
+  listable : Listable ts
+  listable = (decides-listable ts).0 v.1
+
   count-is : count_of (sheet_bytes day ts) ≡ length ts
-  count-is = count_at day ts v.1.0
+  count-is = count_at day ts listable.0
 
   terms-is : (d : TradeLine) (i : ℕ) → i < length ts → terms_at (count_of (sheet_bytes day ts)) (sheet_bytes day ts) i ≡ terms (get_or ts i d)
   terms-is d i h = ap (λ (n : ℕ). chunk (4 + 2 * n + 14 * i) 14 (sheet_bytes day ts)) count-is ∙ terms-at day ts d i h
@@ -154,16 +185,17 @@ module _ (day : ℕ) (ts : List TradeLine) (v : Valid day ts) where
       let t = get_or ts i d in
       ap (λ (x : List ℕ). trade_from x (terms_at (count_of (sheet_bytes day ts)) (sheet_bytes day ts) i)) (sides-at day ts d i h)
       ∙ ap (λ (x : List ℕ). trade_from (sides t) x) (terms-is d i h)
-      ∙ trade-back t (All-get_or FitsLine ts i d h v.2) (All-get_or (λ x. x.month ≤ last_month) ts i d h v.1.1)
+      ∙ trade-back t (All-get_or FitsLine ts i d h v.2) (All-get_or (λ x. x.month ≤ LAST_MONTH) ts i d h listable.1)
 
   pub written_back : Back day ts
   written_back = record {
-    sheet = (
-      (omega (arith, length-sheet day ts), omega (arith, count-is, v.1.0), omega (arith, length-sheet day ts, count-is)),
-      λ line h. let l : line < length ts = omega (arith, count-is) in
+    sheet = record {
+      few = omega (arith, count-is, listable.0);
+      long = omega (arith, length-sheet day ts, count-is);
+      coded = λ line h. let l : line < length ts = omega (arith, count-is) in
           let d = blank in
-          subst IsCode (sym (code_is d line l)) (is_code (get_or ts line d).month (All-get_or (λ x. x.month ≤ last_month) ts line d l v.1.1)),
-    );
+          ap is_code (code_is d line l) ∙ code-back (get_or ts line d).month (All-get_or (λ x. x.month ≤ LAST_MONTH) ts line d l listable.1);
+    };
     day-back = day-at day ts v.0;
     trades-back =
         let b = sheet_bytes day ts in
@@ -172,12 +204,12 @@ module _ (day : ℕ) (ts : List TradeLine) (v : Valid day ts) where
   }
 
 -- ---- bytes that are read as a sheet
-module _ (b : List ℕ) (bytes : Bytes b) (s : Sheet b) where
+module _ (b : List ℕ) (bytes : Bytes b) (s : IsSheet b) where
   abbrev n : ℕ
   n = count_of b
 
   long : length b ≡ 4 + 16 * n
-  long = s.0.2
+  long = s.long
 
   -- the two rows
   sides-rows : chunk 4 (2 * n) b ≡ flat_map sides (trades_of b)
@@ -197,7 +229,7 @@ module _ (b : List ℕ) (bytes : Bytes b) (s : Sheet b) where
       (λ i h.
       let k : 0 + i ≡ i = omega arith in
       rw k (chunk-chunk (4 + 2 * n) (14 * n) (14 * i) 14 b (omega arith)
-      ∙ sym (terms-back (sides_at b i) (terms_at (count_of b) b i) (length-chunk (4 + 2 * n + 14 * i) 14 b (omega (arith, long))) (bytes-chunk (4 + 2 * n + 14 * i) 14 b bytes) (s.1 i h))))
+      ∙ sym (terms-back (sides_at b i) (terms_at (count_of b) b i) (length-chunk (4 + 2 * n + 14 * i) 14 b (omega (arith, long))) (bytes-chunk (4 + 2 * n + 14 * i) 14 b bytes) (s.coded i h))))
 
   length-trades : length (trades_of b) ≡ n
   length-trades = length-lines n b
@@ -235,6 +267,6 @@ module _ (b : List ℕ) (bytes : Bytes b) (s : Sheet b) where
   read-valid =
       let l = length-chunk 2 2 b (omega (arith, long)) in (
         subst (λ (k : ℕ). day_of b < 256 ^ k) l (number-below (chunk 2 2 b) (bytes-chunk 2 2 b bytes)),
-        (omega (arith, length-trades, s.0.1), each_line (λ t. t.month ≤ last_month) (λ i h. (s.1 i h).0)),
+        (decides-listable (trades_of b)).1 (omega (arith, length-trades, s.few), each_line (λ t. t.month ≤ LAST_MONTH) (λ i h. ((decides-code (code_of b i)).0 (s.coded i h)).0)),
         each_line FitsLine (λ i h. (side-below i 0 h (omega arith), side-below i 1 h (omega arith), four_below i 6 h (omega arith), four_below i 10 h (omega arith))),
       )

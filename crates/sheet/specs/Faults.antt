@@ -1,10 +1,10 @@
--- The reasons that the faults of a sheet are, and their words.
+-- What the faults of a sheet tell: their reasons, their lines, and their words.
 use Rattle.std.specs.Prelude.{ℕ, List, ◌++◌, codes, decimal}
 use Rattle.rows.specs.Rows.{Reason, numbered}
-use Rattle.sheet.specs.declared.trade.SheetFault.{SheetFault}
-use Rattle.sheet.specs.declared.trade.SheetFault.TheVariants.{Length, Count, Day, Code}
-use Rattle.sheet.specs.declared.trade.WriteFault.{WriteFault}
-use Rattle.sheet.specs.declared.trade.WriteFault.TheVariants.{Short, BadSheet}
+use Rattle.sheet.specs.declared.fault.SheetFault.{SheetFault}
+use Rattle.sheet.specs.declared.fault.SheetFault.TheVariants.{Length, Count, Day, Code}
+use Rattle.sheet.specs.declared.fault.WriteFault.{WriteFault}
+use Rattle.sheet.specs.declared.fault.WriteFault.TheVariants.{Short, BadSheet}
 
 -- on reading: a bad sheet, whatever the fault
 abbrev pub fault_reason : SheetFault → Reason
@@ -14,6 +14,13 @@ fault_reason fault = numbered 26
 abbrev pub write_reason : WriteFault → Reason
 write_reason Short = numbered 16
 write_reason BadSheet = numbered 26
+
+-- the line that a fault tells: that of a wrong code, else 0
+abbrev pub fault_line : SheetFault → ℕ
+fault_line Length = 0
+fault_line Count = 0
+fault_line Day = 0
+fault_line (Code line) = line
 
 -- the words of each fault
 abbrev pub fault_message : SheetFault → List ℕ

@@ -1,13 +1,16 @@
--- The trade sheet and its bytes. Assumes nothing.
-use Rattle.std.specs.Prelude.{◌≡◌, ℕ, ◌+◌, ◌*◌, ◌^◌, ◌<◌, ◌≤◌, List, [], ◌∷◌, ◌++◌, map, length, take, Some, None, Option, ◌≢◌, slice_index}
+-- The trade sheet and its bytes, and why bytes are no sheet. Assumes nothing.
+use Rattle.std.specs.Prelude.{ℕ, ◌+◌, ◌*◌, ◌^◌, ◌<◌, Bool, true, not, ◌&&◌, List, [], ◌∷◌, ◌++◌, map, length, take, Some, None, Option, IsTrue, ◌==◌, nat_le, nat_lt, slice_index}
 use Rattle.std.specs.Simd.Lanes.{number_l, digits_l, chunk}
-use Rattle.std.specs.List.{range_with_len, flat_map, AllByRecursion}
-use Rattle.sheet.specs.declared.trade.TradeLine.{TradeLine}
-use Rattle.sheet.specs.declared.trade.SheetFault.{SheetFault}
-use Rattle.sheet.specs.declared.trade.SheetFault.TheVariants.{Length, Count, Day, Code}
-use Rattle.sheet.specs.declared.trade.WriteFault.{WriteFault}
-use Rattle.sheet.specs.declared.trade.WriteFault.TheVariants.{Short, BadSheet}
-use Rattle.sheet.specs.Codes.{code_bytes, last_month, month_of, IsCode}
+use Rattle.std.specs.List.{range_with_len, flat_map, list_all, AllByRecursion}
+use Rattle.dates.specs.declared.TheConstants.{LAST_MONTH}
+use Rattle.rows.specs.Rows.{first_row}
+use Rattle.sheet.specs.declared.trade_line.TheConstants.{MAX_TRADES}
+use Rattle.sheet.specs.declared.trade_line.TradeLine.{TradeLine}
+use Rattle.sheet.specs.declared.fault.SheetFault.{SheetFault}
+use Rattle.sheet.specs.declared.fault.SheetFault.TheVariants.{Length, Count, Day, Code}
+use Rattle.sheet.specs.declared.fault.WriteFault.{WriteFault}
+use Rattle.sheet.specs.declared.fault.WriteFault.TheVariants.{Short, BadSheet}
+use Rattle.sheet.specs.Codes.{code_bytes, month_of, is_code}
 
 -- the k bytes of a number, the lowest first
 abbrev pub little : ℕ → ℕ → List ℕ
@@ -29,13 +32,9 @@ terms t = code_bytes t.month ++ (little 4 t.rate ++ little 4 t.quantity)
 unfoldable pub sheet_bytes : ℕ → List TradeLine → List ℕ
 sheet_bytes day trades = little 2 (length trades) ++ (little 2 day ++ (flat_map sides trades ++ flat_map terms trades))
 
--- the most trades of a sheet
-abbrev pub most_trades : ℕ
-most_trades = 256
-
 -- the trades make a sheet: few enough, and each in a month that has a code
-abbrev pub Listable : List TradeLine → Type 0
-Listable trades = (length trades ≤ most_trades) × AllByRecursion (λ t. t.month ≤ last_month) trades
+abbrev pub are_listable : List TradeLine → Bool
+are_listable trades = nat_le (length trades) MAX_TRADES && list_all (λ t. nat_le t.month LAST_MONTH) trades
 
 -- each field of a trade fits its bytes
 abbrev pub FitsLine : TradeLine → Type 0
@@ -43,7 +42,7 @@ FitsLine t = (t.buyer < 256) × (t.seller < 256) × (t.rate < 2 ^ 32) × (t.quan
 
 -- a sheet: its day fits two bytes, its trades make a sheet, and each fits its line
 abbrev pub Valid : ℕ → List TradeLine → Type 0
-Valid day trades = (day < 2 ^ 16) × Listable trades × AllByRecursion FitsLine trades
+Valid day trades = (day < 2 ^ 16) × IsTrue (are_listable trades) × AllByRecursion FitsLine trades
 
 -- what the bytes of a sheet say
 abbrev pub count_of : List ℕ → ℕ
@@ -81,36 +80,32 @@ lines_of count bytes = map (λ line. trade_from (sides_at bytes line) (terms_at 
 abbrev pub trades_of : List ℕ → List TradeLine
 trades_of bytes = lines_of (count_of bytes) bytes
 
--- the count is in range, and the length is that of so many trades
-abbrev pub Framed : List ℕ → Type 0
-Framed bytes = (4 ≤ length bytes) × (count_of bytes ≤ most_trades) × (length bytes ≡ 4 + 16 * count_of bytes)
-
--- bytes that are read as a sheet: framed, with a code on each line
-abbrev pub Sheet : List ℕ → Type 0
-Sheet bytes = Framed bytes × ((line : ℕ) → line < count_of bytes → IsCode (code_of bytes line))
-
 -- the day is the ticket's, if there is a ticket
-abbrev pub OnDay : Option ℕ → ℕ → Type 0
-OnDay None day = Unit {0}
-OnDay (Some ticket) day = day ≡ ticket
+abbrev pub is_on : Option ℕ → ℕ → Bool
+is_on None day = true
+is_on (Some ticket) day = day == ticket
 
--- the first cause for which bytes are refused, with a ticket's day or none
-abbrev pub Refused : List ℕ → Option ℕ → SheetFault → Type 0
-Refused bytes ticket Length = (4 ≤ length bytes → (count_of bytes ≤ most_trades) × (length bytes ≢ 4 + 16 * count_of bytes))
-Refused bytes ticket Count = (4 ≤ length bytes) × (most_trades < count_of bytes)
-Refused bytes ticket Day = Framed bytes × (OnDay ticket (day_of bytes) → ⊥)
-Refused bytes ticket (Code line) =
-    Framed bytes × OnDay ticket (day_of bytes)
-    × ((k : ℕ) → k < line → IsCode (code_of bytes k)) × (line < count_of bytes) × (IsCode (code_of bytes line) → ⊥)
+-- lines without a code, from one on, so many of them
+abbrev pub code_rows : List ℕ → ℕ → ℕ → List (Bool × SheetFault)
+code_rows bytes from n = map (λ line. (not (is_code (code_of bytes line)), Code line)) (range_with_len from n)
 
--- the line that a fault tells
-abbrev pub fault_line : SheetFault → ℕ
-fault_line Length = 0
-fault_line Count = 0
-fault_line Day = 0
-fault_line (Code line) = line
+-- why bytes are not read as a sheet of the ticket's day, if there is a ticket, in order
+abbrev pub read_rows : List ℕ → Option ℕ → List (Bool × SheetFault)
+read_rows bytes ticket =
+    (nat_lt (length bytes) 4, Length)
+    ∷ (nat_lt MAX_TRADES (count_of bytes), Count)
+    ∷ (not (length bytes == 4 + 16 * count_of bytes), Length)
+    ∷ (not (is_on ticket (day_of bytes)), Day)
+    ∷ code_rows bytes 0 (count_of bytes)
 
--- why trades are not written into an array of so many bytes: it is short; else they make no sheet
-abbrev pub Unwritten : ℕ → List TradeLine → WriteFault → Type 0
-Unwritten room trades Short = room < 4 + 16 * length trades
-Unwritten room trades BadSheet = (4 + 16 * length trades ≤ room) × (Listable trades → ⊥)
+-- the one fault of bytes; none in a sheet of the ticket's day
+abbrev pub read_fault : List ℕ → Option ℕ → Option SheetFault
+read_fault bytes ticket = first_row (read_rows bytes ticket)
+
+-- why trades are not written as a sheet into an array of so many bytes, in order
+abbrev pub write_rows : ℕ → List TradeLine → List (Bool × WriteFault)
+write_rows room trades = (nat_lt room (4 + 16 * length trades), Short) ∷ (not (are_listable trades), BadSheet) ∷ []
+
+-- the one fault of trades and an array; none where the sheet is written
+abbrev pub write_fault : ℕ → List TradeLine → Option WriteFault
+write_fault room trades = first_row (write_rows room trades)

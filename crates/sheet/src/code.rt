@@ -1,24 +1,23 @@
 // A contract code: DI1, the letter of the month, two digits of the year.
 ghost use Rattle.std.specs.Prelude.{◌≡◌, ℕ, ◌+◌, ◌/◌, ◌%◌, ◌<◌, ◌≤◌, Some, MatchOption, ◌≢◌};
-ghost use Rattle.sheet.specs.Codes.{code_bytes, letter_of, last_month, Names, NoCode};
+ghost use Rattle.dates.specs.declared.TheConstants.{LAST_MONTH};
+ghost use Rattle.sheet.specs.Codes.{code_bytes, letter_of, Names, NoCode};
 
 use crate::letters::{letter, month_of_letter};
+use dates::LAST_MONTH;
 use std::fmt;
 
-// The last month that has a code: December 2099.
-const LAST_MONTH: u32 = 1199;
-
-// A month that has a code, counted from January 2000.
+/// A month that has a code.
 #[derive(Clone, Copy, PartialEq, Eq, Debug)]
 pub struct ContractCode {
     month: u32,
-    ghost coded: { month ≤ last_month },
+    ghost coded: { month ≤ LAST_MONTH },
 }
 
 impl ContractCode {
-    // The code of a month.
+    /// The code of a month, which is none after December 2099.
     pub fn new(month: u32) -> Option<ContractCode>
-        ensures { MatchOption result (last_month < month) (λ c. c.month ≡ month) }
+        ensures { MatchOption result (LAST_MONTH < month) (λ c. c.month ≡ month) }
     {
         // Kept: within a closure for `then` the month is not known to have a code, and the proof does not close.
         if month <= LAST_MONTH {
@@ -28,14 +27,14 @@ impl ContractCode {
         }
     }
 
-    // The month, counted from January 2000.
+    /// The month, counted from January 2000.
     pub fn month(&self) -> u32
-        ensures { (result ≡ self.now.month) × (result ≤ last_month) }
+        ensures { (result ≡ self.now.month) × (result ≤ LAST_MONTH) }
     {
         self.month
     }
 
-    // The month whose code these bytes are.
+    /// The month whose code these bytes are.
     // Kept: a TryFrom of a month or of bytes would need error types that say no more than None.
     pub fn from_bytes(bytes: &[u8]) -> Option<ContractCode>
         ensures { MatchOption result (NoCode bytes.now) (λ c. Names bytes.now c.month) }
@@ -50,7 +49,7 @@ impl ContractCode {
         })
     }
 
-    // The six bytes of the code.
+    /// The six bytes of the code.
     pub fn bytes(&self) -> [u8; 6]
         ensures { result ≡ code_bytes self.now.month }
     {

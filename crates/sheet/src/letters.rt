@@ -3,7 +3,7 @@
 ghost use Rattle.std.specs.Prelude.{◌≡◌, ℕ, ◌<◌, ◌≤◌, MatchOption, ◌≢◌};
 ghost use Rattle.sheet.specs.Codes.{letter_of};
 
-// The letter of a month of the year, 0 for January.
+/// The letter of a month of the year, 0 for January.
 pub fn letter(month_of_year: u32) -> Option<char>
     ensures { MatchOption result (12 ≤ month_of_year) (λ c. (month_of_year < 12) × (c ≡ letter_of month_of_year) × (c < 128)) }
 {
@@ -24,7 +24,7 @@ pub fn letter(month_of_year: u32) -> Option<char>
     }
 }
 
-// The month of the year that has this letter.
+/// The month of the year that has this letter, 0 for January.
 pub fn month_of_letter(letter: char) -> Option<u32>
     ensures { MatchOption result ((m : ℕ) → m < 12 → letter_of m ≢ letter) (λ m. (m < 12) × (letter_of m ≡ letter)) }
 {

@@ -2,16 +2,17 @@
 #![tactic(auto)]
 
 mod code;
+mod fault;
 mod letters;
-mod numbers;
 #[cfg(test)]
 mod tests;
-mod trade;
+mod trade_line;
 mod view;
 mod writing;
 
 pub use code::ContractCode;
+pub use fault::{SheetFault, WriteFault};
 pub use letters::{letter, month_of_letter};
-pub use trade::{MOST_TRADES, SheetFault, TradeLine, WriteFault};
+pub use trade_line::{MAX_TRADES, TradeLine};
 pub use view::{SheetView, Trades, read, read_for};
 pub use writing::write;

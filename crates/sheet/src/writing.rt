@@ -1,18 +1,21 @@
 // A trade sheet written into an array.
-ghost use Rattle.std.specs.Prelude.{◌≡◌, ◌+◌, ◌*◌, ◌<◌, ◌≤◌, true, ◌++◌, length, drop, Decides, IfSome, MatchOption, MatchResult};
-ghost use Rattle.std.proofs.Props.{props};
-ghost use Rattle.std.specs.List.{flat_map, AllByRecursion};
-ghost use Rattle.sheet.specs.Codes.{code_bytes, last_month};
-ghost use Rattle.sheet.specs.Sheet.{little, sides, terms, sheet_bytes, FitsLine, Listable, Valid, Unwritten};
+ghost use Rattle.std.specs.Prelude.{◌≡◌, ◌+◌, ◌*◌, ◌<◌, ◌≤◌, false, ◌++◌, length, drop, Decides, IfSome, IsTrue, MatchOption, MatchResult, nat_le};
+ghost use Rattle.std.specs.List.{flat_map, list_all, AllByRecursion};
+ghost use Rattle.std.specs.Result.{result_err};
+ghost use Rattle.sheet.specs.Codes.{code_bytes};
+ghost use Rattle.sheet.specs.Sheet.{little, sides, terms, sheet_bytes, are_listable, write_fault, FitsLine, Valid};
 
 use crate::code::ContractCode;
-use crate::trade::{MOST_TRADES, TradeLine, WriteFault};
+use crate::fault::WriteFault;
+use crate::trade_line::{MAX_TRADES, TradeLine};
+use dates::LAST_MONTH;
 
-// Writes the sheet of these trades, and answers its length.
+/// Writes the sheet of these trades, and answers its length. The rest of the array stays.
 pub fn write(day: u16, trades: &[TradeLine], out: &mut [u8]) -> Result<usize, WriteFault>
-    ensures { MatchResult result
+    ensures fault { result_err result ≡ write_fault (length out.old) trades.now }
+    ensures written { MatchResult result
         (λ n. (n ≡ 4 + 16 * length trades.now) × Valid day trades.now × (out.new ≡ sheet_bytes day trades.now ++ drop n out.old))
-        (λ f. Unwritten (length out.old) trades.now f × (out.new ≡ out.old)) }
+        (λ _. out.new ≡ out.old) }
 {
     let count = trades.len();
     if is_short(out.len(), count) {
@@ -37,16 +40,16 @@ fn is_short(room: usize, count: usize) -> bool
 #[derive(Clone, Copy)]
 struct ListedTrades<'a> {
     trades: &'a [TradeLine],
-    ghost listable: { Listable trades.now } by { Prim.hlevel props },
+    ghost listable: { IsTrue (are_listable trades.now) },
 }
 
 impl<'a> ListedTrades<'a> {
     // The trades, if they make a sheet.
     fn new(trades: &'a [TradeLine]) -> Option<ListedTrades<'a>>
-        ensures value { MatchOption result (¬ Listable trades.now) (λ t. t.trades.now ≡ trades.now) }
+        ensures value { MatchOption result (are_listable trades.now ≡ false) (λ t. t.trades.now ≡ trades.now) }
         ensures fits { IfSome result (λ _. AllByRecursion FitsLine trades.now) }
     {
-        if trades.len() > MOST_TRADES as usize || !are_coded(trades) {
+        if trades.len() > MAX_TRADES as usize || !are_coded(trades) {
             return None;
         }
         Some(ListedTrades { trades })
@@ -75,15 +78,15 @@ impl<'a> ListedTrades<'a> {
 
 // Whether the month of each trade has a code.
 fn are_coded(trades: &[TradeLine]) -> bool
-    ensures coded { Decides result (AllByRecursion (λ t. t.month ≤ last_month) trades.now) }
-    ensures fits { result ≡ true → AllByRecursion FitsLine trades.now }
+    ensures coded { result ≡ list_all (λ t. nat_le t.month LAST_MONTH) trades.now }
+    ensures fits { IsTrue result → AllByRecursion FitsLine trades.now }
 {
     trades.iter().all(|trade| is_coded(*trade))
 }
 
 // Whether the month of a trade has a code. Its other fields fit their bytes by their types.
 fn is_coded(trade: TradeLine) -> bool
-    ensures coded { Decides result (trade.month ≤ last_month) }
+    ensures coded { result ≡ nat_le trade.month LAST_MONTH }
     ensures fits { FitsLine trade }
 {
     ContractCode::new(trade.month).is_some()

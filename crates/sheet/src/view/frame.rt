@@ -1,11 +1,16 @@
 // The frame of a sheet: its head, and the bytes of its lines.
-ghost use Rattle.std.specs.Prelude.{◌≡◌, ℕ, ◌<◌, Decides, Option, MatchOption, MatchResult};
-ghost use Rattle.sheet.specs.Codes.{IsCode};
-ghost use Rattle.sheet.specs.Sheet.{Framed, Refused, count_of, day_of, code_of, sides_at, terms_at};
+ghost use Rattle.std.specs.Prelude.{◌≡◌, ℕ, ◌+◌, ◌*◌, ◌<◌, ◌≤◌, length, Some, Option, MatchResult};
+ghost use Rattle.std.specs.Option.{option_map};
+ghost use Rattle.rows.specs.Rows.{first_row};
+ghost use Rattle.sheet.specs.Codes.{is_code};
+ghost use Rattle.sheet.specs.Sheet.{count_of, day_of, code_of, sides_at, terms_at, code_rows, read_fault};
+ghost use Rattle.sheet.specs.declared.fault.SheetFault.TheVariants.{Code};
+ghost use Rattle.sheet.specs.declared.trade_line.TheConstants.{MAX_TRADES};
 
+use super::array_of;
 use crate::code::ContractCode;
-use crate::numbers::array_of;
-use crate::trade::{MOST_TRADES, SheetFault};
+use crate::fault::SheetFault;
+use crate::trade_line::MAX_TRADES;
 
 // Bytes whose length is that of a sheet, with the count and the day of their head.
 // Kept: the count stands beside the whole bytes, tied to them below; two slices would need it too, since the definitions speak of the whole.
@@ -14,7 +19,8 @@ pub(super) struct Frame<'a> {
     bytes: &'a [u8],
     pub(super) count: u16,
     pub(super) day: u16,
-    ghost framed: { Framed bytes.now },
+    ghost long: { length bytes.now ≡ 4 + 16 * count },
+    ghost few: { count ≤ MAX_TRADES },
     ghost counted: { count ≡ count_of bytes.now },
     ghost dated: { day ≡ day_of bytes.now },
 }
@@ -22,14 +28,14 @@ pub(super) struct Frame<'a> {
 impl<'a> Frame<'a> {
     // The frame of bytes, if their count is in range and their length is that of so many trades.
     pub(super) fn of(bytes: &'a [u8]) -> Result<Frame<'a>, SheetFault>
-        ensures { MatchResult result (λ f. f.bytes.now ≡ bytes.now) (λ f. (ticket : Option ℕ) → Refused bytes.now ticket f) }
+        ensures { MatchResult result (λ f. f.bytes.now ≡ bytes.now) (λ fault. (ticket : Option ℕ) → read_fault bytes.now ticket ≡ Some fault) }
     {
         if bytes.len() < 4 {
             return Err(SheetFault::Length);
         }
         let count = u16::from_le_bytes(array_of(&bytes[0..2]));
         let day = u16::from_le_bytes(array_of(&bytes[2..4]));
-        if count > MOST_TRADES {
+        if count > MAX_TRADES {
             return Err(SheetFault::Count);
         }
         if bytes.len() != 4 + 16 * count as usize {
@@ -59,7 +65,7 @@ impl<'a> Frame<'a> {
 
     // The first line whose code is none.
     pub(super) fn first_bad_line(&self) -> Option<u32>
-        ensures { MatchOption result ((line : ℕ) → line < count_of self.now.bytes.now → IsCode (code_of self.now.bytes.now line)) (λ line. ((k : ℕ) → k < line → IsCode (code_of self.now.bytes.now k)) × (line < count_of self.now.bytes.now) × (IsCode (code_of self.now.bytes.now line) → ⊥)) }
+        ensures { option_map Code result ≡ first_row (code_rows self.now.bytes.now 0 self.now.count) }
     {
         (0..self.count as u32).find(|line| !self.has_code(*line))
     }
@@ -67,7 +73,7 @@ impl<'a> Frame<'a> {
     // Whether a line has a code.
     fn has_code(&self, line: u32) -> bool
         requires { line < self.now.count }
-        ensures { Decides result (IsCode (code_of self.now.bytes.now line)) }
+        ensures { result ≡ is_code (code_of self.now.bytes.now line) }
     {
         let terms = self.terms(line as usize);
         ContractCode::from_bytes(&terms[0..6]).is_some()

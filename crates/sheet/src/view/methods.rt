@@ -1,24 +1,25 @@
 // What a sheet says: its day, how many trades, and each trade.
-ghost use Rattle.std.specs.Prelude.{◌≡◌, ◌+◌, ◌*◌, ◌^◌, ◌<◌, ◌≤◌, take, None, MatchOption};
+// Kept: these methods stand apart from their type, since its file may not import definitions that name it.
+ghost use Rattle.std.specs.Prelude.{◌≡◌, ◌+◌, ◌*◌, ◌^◌, ◌<◌, ◌≤◌, length, take, None, MatchOption};
 ghost use Rattle.std.specs.List.{slice_get};
 ghost use Rattle.sheet.specs.Codes.{NoCode};
 ghost use Rattle.sheet.specs.Sheet.{terms_at, trade_from};
 ghost use Rattle.sheet.specs.Views.{view_day, view_count, view_trades, Sound};
+ghost use Rattle.sheet.specs.Lines.{trades_left};
 
-use super::SheetView;
+use super::{SheetView, Trades, array_of};
 use crate::code::ContractCode;
-use crate::numbers::array_of;
-use crate::trade::TradeLine;
+use crate::trade_line::{MAX_TRADES, TradeLine};
 
-impl SheetView<'_> {
-    // The session day.
+impl<'a> SheetView<'a> {
+    /// The session day.
     pub fn day(&self) -> u32
         ensures { (result ≡ view_day self.now) × (result < 2 ^ 16) }
     {
         self.frame.day as u32
     }
 
-    // How many trades there are.
+    /// How many trades there are.
     pub fn count(&self) -> usize
         ensures value { (result ≡ view_count self.now) × (result < 2 ^ 16) }
         ensures sound { Sound self.now }
@@ -26,7 +27,7 @@ impl SheetView<'_> {
         self.frame.count as usize
     }
 
-    // The trade of a line, counted from 0.
+    /// The trade of a line, counted from 0.
     pub fn trade(&self, line: usize) -> Option<TradeLine>
         ensures past { view_count self.now ≤ line → result ≡ None }
         ensures value { result ≡ slice_get (view_trades self.now) line }
@@ -35,6 +36,17 @@ impl SheetView<'_> {
             return None;
         }
         trade_from(self.frame.sides(line), self.frame.terms(line))
+    }
+
+    /// The trades, in the order of their lines.
+    pub fn trades(&self) -> Trades<'a>
+        ensures items { trades_left result ≡ view_trades self.now }
+        ensures few { length (view_trades self.now) ≤ MAX_TRADES }
+    {
+        Trades {
+            view: *self,
+            line: 0,
+        }
     }
 }
 

@@ -1,23 +1,25 @@
-// A trade sheet read: the first fault, or a view of the sheet.
-ghost use Rattle.std.specs.Prelude.{◌≡◌, ℕ, ◌<◌, Some, None, Decides, Option, MatchOption, MatchResult};
-ghost use Rattle.sheet.specs.Codes.{IsCode};
-ghost use Rattle.sheet.specs.Sheet.{Framed, Refused, OnDay, count_of, code_of};
-ghost use Rattle.sheet.specs.Views.{view_bytes, view_day, Sound, Outcome, ReadsBack};
+// A trade sheet read: its one fault, or a view of the sheet.
+ghost use Rattle.std.specs.Prelude.{◌≡◌, Some, None, IfOk, IsTrue};
+ghost use Rattle.std.specs.Result.{result_err};
+ghost use Rattle.sheet.specs.Sheet.{is_on, read_fault};
+ghost use Rattle.sheet.specs.Views.{view_bytes, view_day, Outcome, ReadsBack};
 
 use super::SheetView;
 use super::frame::Frame;
-use crate::trade::SheetFault;
+use crate::fault::SheetFault;
 
-// The sheet that these bytes are.
+/// The sheet that these bytes are, of any day.
 pub fn read(bytes: &[u8]) -> Result<SheetView<'_>, SheetFault>
+    ensures fault { result_err result ≡ read_fault bytes.now None }
     ensures outcome { Outcome bytes.now None result }
     ensures back { ReadsBack bytes.now None result }
 {
     read_on(bytes, None)
 }
 
-// The sheet that these bytes are, if it is of the ticket's day.
+/// The sheet that these bytes are, if it is of the ticket's day.
 pub fn read_for(bytes: &[u8], day: u32) -> Result<SheetView<'_>, SheetFault>
+    ensures fault { result_err result ≡ read_fault bytes.now (Some day) }
     ensures outcome { Outcome bytes.now (Some day) result }
     ensures back { ReadsBack bytes.now (Some day) result }
 {
@@ -26,7 +28,8 @@ pub fn read_for(bytes: &[u8], day: u32) -> Result<SheetView<'_>, SheetFault>
 
 // The sheet that these bytes are, on the ticket's day if there is a ticket.
 fn read_on(bytes: &[u8], ticket: Option<u32>) -> Result<SheetView<'_>, SheetFault>
-    ensures { MatchResult result (λ v. (view_bytes v ≡ bytes.now) × Sound v × OnDay ticket (view_day v)) (Refused bytes.now ticket) }
+    ensures fault { result_err result ≡ read_fault bytes.now ticket }
+    ensures view { IfOk result (λ v. view_bytes v ≡ bytes.now) }
 {
     let frame = Frame::of(bytes)?;
     if !is_on(ticket, frame.day as u32) {
@@ -40,7 +43,7 @@ fn read_on(bytes: &[u8], ticket: Option<u32>) -> Result<SheetView<'_>, SheetFaul
 
 // Whether the day is the ticket's, if there is a ticket.
 fn is_on(ticket: Option<u32>, day: u32) -> bool
-    ensures { Decides result (OnDay ticket day) }
+    ensures { result ≡ is_on ticket day }
 {
     ticket.is_none_or(|of_ticket| day == of_ticket)
 }

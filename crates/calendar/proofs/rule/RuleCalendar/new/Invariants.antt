@@ -1,7 +1,7 @@
 use Rattle.std.proofs.Common.{◌≡◌, List, ◌++◌, ◌+◌, vec_items}
 use Rattle.std.specs.Slice.Iter.{iter_rest}
 use Rattle.std.specs.Iterator.Adapters.{rev_source}
-use Rattle.dates.specs.declared.month.TheConstants.{LAST_DAY}
+use Rattle.dates.specs.declared.TheConstants.{LAST_DAY}
 use Rattle.calendar.specs.declared.rule.Exception.{Exception}
 use Rattle.calendar.specs.RuleCalendars.{kind_with_exceptions, ListsKinds}
 use Rattle.calendar.proofs.rule.RuleCalendar.new.Given as goal
