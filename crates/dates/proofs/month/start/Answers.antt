@@ -2,7 +2,7 @@ use Rattle.std.proofs.Common.{◌≡◌, ◌+◌, ◌*◌, ◌/◌, ◌%◌, get
 use Rattle.std.proofs.lemmas.Bool.Decides.{nat_tests}
 use Rattle.dates.specs.Months.{first_day}
 use Rattle.dates.proofs.MonthLaws.{before, first-day-is, first-day-bound}
-use Rattle.dates.proofs.start.Goals as goal
+use Rattle.dates.proofs.month.start.Goals as goal
 
 pub returns : goal.returns
 returns c =

@@ -1,7 +1,7 @@
 use Rattle.std.proofs.Common.{◌≡◌, ◌+◌, ◌/◌, sym, arith}
 use Rattle.dates.specs.Months.{Holds}
 use Rattle.dates.proofs.MonthLaws.{guess-fits, month-found}
-use Rattle.dates.proofs.month_of.Goals as goal
+use Rattle.dates.proofs.month.month_of.Goals as goal
 
 pub returns-then-start-day : goal.returns-then-start-day
 returns-then-start-day c =

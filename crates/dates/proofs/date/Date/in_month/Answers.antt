@@ -1,6 +1,6 @@
 use Rattle.std.proofs.Common.{refl}
 use Rattle.dates.proofs.DateLaws.{one-date, dated}
-use Rattle.dates.proofs.date.days.date_in.Goals as goal
+use Rattle.dates.proofs.date.Date.in_month.Goals as goal
 
 pub returns : goal.returns
 returns c =

@@ -1,6 +1,6 @@
 use Rattle.std.proofs.Common.{◌≡◌, length, arith, rules}
 use Rattle.dates.proofs.TextLaws.{text-is}
-use Rattle.dates.proofs.date.text.numbers.Goals as goal
+use Rattle.dates.proofs.date.numbers.Goals as goal
 
 pub returns : goal.returns
 returns c =
