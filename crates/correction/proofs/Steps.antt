@@ -8,7 +8,7 @@ use Rattle.calendar.specs.Kinds.{is_reserve}
 use Rattle.calendar.specs.Spans.{reserve_days, first_in, days_by}
 use Rattle.calendar.proofs.Spans.{days-none, days-more, days-split, days-head, days-end, past-last}
 use Rattle.interest.specs.Correction.{corrected, corrected_day}
-use Rattle.interest.proofs.Carried.{corrected-none, corrected-more}
+use Rattle.interest.proofs.Corrections.{corrected-none, corrected-more}
 use Rattle.correction.specs.Carrying.{Carried}
 use Rattle.correction.specs.Gaps.{factor_on, factors, is_unrated, first_unrated, corrected_price}
 
