@@ -126,7 +126,7 @@ impl<C: Calendar, S: Topmost<C>> Desk<C, S> {
     }
 
     fn import(&mut self, sheet: &[u8]) -> Reply
-        ensures { (w : World) (h : History) → ⟦<Book<C, S> as Kept>⟧.keeps w h self.old.book → Acted (takes S.publishes S.arbitrates) ⟦<Book<C, S> as Kept>⟧.keeps w h (Call.Import sheet) result self.old self.new }
+        ensures { (w : World) (h : History) → ⟦<Book<C, S> as Kept>⟧.keeps w h self.old.book → Acted (takes S.publishes S.arbitrates) ⟦<Book<C, S> as Kept>⟧.keeps w h (Call.Import sheet.entry) result self.old self.new }
     {
         match &self.ticket {
             None => Reply::NoTicket,
@@ -232,7 +232,7 @@ impl<C: Calendar, S: Topmost<C>> Desk<C, S> {
 
     /// Makes a call, and answers it; where memory is short nothing is done.
     pub fn act(&mut self, heap: Global, call: Call<'_>) -> Result<Reply, AllocError>
-        ensures acted { IfOk result (λ reply. (w : World) (h : History) → ⟦<Book<C, S> as Kept>⟧.keeps w h self.old.book → Acted (takes S.publishes S.arbitrates) ⟦<Book<C, S> as Kept>⟧.keeps w h call reply self.old self.new) }
+        ensures acted { IfOk result (λ reply. (w : World) (h : History) → ⟦<Book<C, S> as Kept>⟧.keeps w h self.old.book → Acted (takes S.publishes S.arbitrates) ⟦<Book<C, S> as Kept>⟧.keeps w h call.entry reply self.old self.new) }
         ensures short { OnErr result (self.new ≡ self.old) }
     {
         match call {
