@@ -26,7 +26,7 @@ use refusal::Refusal;
 pub struct Book<C, S> {
     calendar: C,
     source: S,
-    ledger: Ledger,
+    pub(crate) ledger: Ledger,
 }
 
 /// What is meant by keeping a world and a history. No code is behind it.

@@ -4,10 +4,11 @@ use Rattle.std.proofs.lemmas.Bool.{true≢false, cases_lt, cases_eq}
 use Rattle.std.proofs.lemmas.Iterator.Adapters.{option_map_id}
 use Rattle.std.proofs.lemmas.List.{append-nil, length-append}
 use Rattle.std.specs.List.{range_with_len, find}
+use Rattle.dates.specs.declared.TheConstants.{LAST_DAY}
 use Rattle.calendar.specs.declared.kind.DayKind.{DayKind}
 use Rattle.calendar.specs.declared.kind.DayKind.TheVariants.{ClosedDay}
 use Rattle.calendar.specs.Kinds.{is_reserve, is_session}
-use Rattle.calendar.specs.Spans.{days_by, reserve_days, first_in, first_session, First}
+use Rattle.calendar.specs.Spans.{days_by, reserve_days, first_in, first_session, IsFirstSession}
 
 -- an empty range has no days
 pub days-none : (t : DayKind → Bool) (k : ℕ → DayKind) (from to : ℕ) → to ≤ from → days_by t k from to ≡ []
@@ -82,23 +83,23 @@ session-none : (k : ℕ → DayKind) (from to : ℕ) → to ≤ from → first_s
 session-none k from to h = ap first_in (days-none is_session k from to h)
 
 -- past the end of the calendar no day passes
-pub past-last : (k : ℕ → DayKind) → ((d : ℕ) → 36524 < d → k d ≡ ClosedDay) → (t : DayKind → Bool) → t ClosedDay ≡ false → (d : ℕ) → 36525 ≤ d → t (k d) ≡ false
+pub past-last : (k : ℕ → DayKind) → ((d : ℕ) → LAST_DAY < d → k d ≡ ClosedDay) → (t : DayKind → Bool) → t ClosedDay ≡ false → (d : ℕ) → LAST_DAY + 1 ≤ d → t (k d) ≡ false
 past-last k ends t e d h = ap t (ends d (omega arith)) ∙ e
 
 -- a count that stops at the end of the calendar
-pub count-ends : (k : ℕ → DayKind) → ((d : ℕ) → 36524 < d → k d ≡ ClosedDay) → (from end to count : ℕ) → count ≡ length (reserve_days k from end)
-    → end ≡ min to 36525 → count ≡ length (reserve_days k from to)
+pub count-ends : (k : ℕ → DayKind) → ((d : ℕ) → LAST_DAY < d → k d ≡ ClosedDay) → (from end to count : ℕ) → count ≡ length (reserve_days k from end)
+    → end ≡ min to (LAST_DAY + 1) → count ≡ length (reserve_days k from to)
 count-ends k ends from end to count is e =
-    is ∙ sym (ap length (days-end is_reserve k 36525 from to (past-last k ends is_reserve refl) ∙ ap (days_by is_reserve k from) (sym e)))
+    is ∙ sym (ap length (days-end is_reserve k (LAST_DAY + 1) from to (past-last k ends is_reserve refl) ∙ ap (days_by is_reserve k from) (sym e)))
 
 -- a search that stops at the end of the calendar
-pub session-ends : (k : ℕ → DayKind) → ((d : ℕ) → 36524 < d → k d ≡ ClosedDay) → (from to end : ℕ) → end ≡ min to 36525
+pub session-ends : (k : ℕ → DayKind) → ((d : ℕ) → LAST_DAY < d → k d ≡ ClosedDay) → (from to end : ℕ) → end ≡ min to (LAST_DAY + 1)
     → first_session k from to ≡ first_session k from end
 session-ends k ends from to end e =
-    ap first_in (days-end is_session k 36525 from to (past-last k ends is_session refl) ∙ ap (days_by is_session k from) (sym e))
+    ap first_in (days-end is_session k (LAST_DAY + 1) from to (past-last k ends is_session refl) ∙ ap (days_by is_session k from) (sym e))
 
 -- nothing past the end of the calendar
-pub session-past : (k : ℕ → DayKind) → ((d : ℕ) → 36524 < d → k d ≡ ClosedDay) → (from to : ℕ) → 36524 < from → first_session k from to ≡ None
+pub session-past : (k : ℕ → DayKind) → ((d : ℕ) → LAST_DAY < d → k d ≡ ClosedDay) → (from to : ℕ) → LAST_DAY < from → first_session k from to ≡ None
 session-past k ends from to h = ap first_in (days-never is_session k from to (λ d l. past-last k ends is_session refl d (omega arith)))
 
 -- a day before the first session of the rest is none, if the first day is none
@@ -106,30 +107,30 @@ later : (k : ℕ → DayKind) (from to : ℕ) → is_session (k from) ≡ false 
     → (d : ℕ) → from ≤ d → d < to → is_session (k d) ≡ false
 later k from to f a d l m = elim (cases_eq d from) [ inl e ↦ rw e f | inr n ↦ a d (omega arith) m ]
 
-cover : (k : ℕ → DayKind) (from to : ℕ) → is_session (k from) ≡ false → (r : Option ℕ) → First k (from + 1) to r → First k from to r
+cover : (k : ℕ → DayKind) (from to : ℕ) → is_session (k from) ≡ false → (r : Option ℕ) → IsFirstSession k (from + 1) to r → IsFirstSession k from to r
 cover k from to f None a = later k from to f a
 cover k from to f (Some s) a = (omega (arith, a.0), a.1, a.2, later k from s f a.3)
 
 -- the first of the sessions of a range is a session with none before it
-firsts : (k : ℕ → DayKind) (n from to : ℕ) → to - from ≡ n → First k from to (first_session k from to)
+firsts : (k : ℕ → DayKind) (n from to : ℕ) → to - from ≡ n → IsFirstSession k from to (first_session k from to)
 firsts k zero from to e = rw (session-none k from to (omega arith)) (λ d l m. absurd (omega arith))
 firsts k (suc n) from to e = by (is_session (k from)) refl (firsts k n (from + 1) to (omega arith))
   where
     lt : from < to
     lt = omega arith
 
-    by : (b : Bool) → is_session (k from) ≡ b → First k (from + 1) to (first_session k (from + 1) to) → First k from to (first_session k from to)
+    by : (b : Bool) → is_session (k from) ≡ b → IsFirstSession k (from + 1) to (first_session k (from + 1) to) → IsFirstSession k from to (first_session k from to)
     by true f later = rw (days-head is_session k from to lt, f) ((omega arith, lt, f, λ d l m. absurd (omega arith)))
     by false f later = rw (days-head is_session k from to lt, f) (cover k from to f (first_session k (from + 1) to) later)
 
-pub is-first : (k : ℕ → DayKind) (from to : ℕ) (r : Option ℕ) → r ≡ first_session k from to → First k from to r
+pub is-first : (k : ℕ → DayKind) (from to : ℕ) (r : Option ℕ) → r ≡ first_session k from to → IsFirstSession k from to r
 is-first k from to r e = rw e (firsts k (to - from) from to refl)
 
 -- a session is a day of the calendar
-pub first-bound : (k : ℕ → DayKind) → ((d : ℕ) → 36524 < d → k d ≡ ClosedDay) → (from to : ℕ) (r : Option ℕ) → First k from to r → IfSome r (λ d. d ≤ 36524)
+pub first-bound : (k : ℕ → DayKind) → ((d : ℕ) → LAST_DAY < d → k d ≡ ClosedDay) → (from to : ℕ) (r : Option ℕ) → IsFirstSession k from to r → IfSome r (λ d. d ≤ LAST_DAY)
 first-bound k ends from to None a = tt
 first-bound k ends from to (Some s) a =
-    elim (cases_lt 36524 s) [ inl l ↦ absurd (true≢false (sym a.2 ∙ past-last k ends is_session refl s (omega arith))) | inr l ↦ l ]
+    elim (cases_lt LAST_DAY s) [ inl l ↦ absurd (true≢false (sym a.2 ∙ past-last k ends is_session refl s (omega arith))) | inr l ↦ l ]
 
 -- the first day that a search finds is the first of those that pass
 found-first : (t : ℕ → Bool) (ds : List ℕ) → find t ds ≡ first_in (filter t ds)
@@ -141,7 +142,7 @@ found-first t (d ∷ ds) = by (t d) (found-first t ds)
     by false e = e
 
 -- what a search of a range to the end of the calendar finds
-pub session-found : (k : ℕ → DayKind) → ((d : ℕ) → 36524 < d → k d ≡ ClosedDay) → (from to end : ℕ) (r : Option ℕ) → end ≡ min to 36525
+pub session-found : (k : ℕ → DayKind) → ((d : ℕ) → LAST_DAY < d → k d ≡ ClosedDay) → (from to end : ℕ) (r : Option ℕ) → end ≡ min to (LAST_DAY + 1)
     → option_map (λ d. d) r ≡ find (λ d. is_session (k d)) (range_with_len from (end - from)) → r ≡ first_session k from to
 unfolding days_by
 session-found k ends from to end r e found =

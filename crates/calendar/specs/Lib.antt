@@ -1,4 +1,4 @@
 pub mod Kinds
-pub mod Marked
-pub mod Ruled
+pub mod MarkedCalendars
+pub mod RuleCalendars
 pub mod Spans

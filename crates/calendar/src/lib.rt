@@ -1,5 +1,5 @@
-// Which days are sessions and which are reserve days, in calendars of any make, and what follows
-// from that: the expiry of a month, the reserve days of a range, the next session.
+//! Which days are sessions and which are reserve days, in calendars of any make, and what follows
+//! from that: the expiry of a month, the reserve days of a range, the next session.
 #![tactic(auto)]
 
 pub mod kind;

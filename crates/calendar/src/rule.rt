@@ -1,15 +1,15 @@
-// The rule calendar: Monday to Friday are sessions but for a list of exceptions.
-ghost use Rattle.std.specs.Prelude.{◌≡◌, ℕ, List, ◌∷◌, IfOk};
+//! The rule calendar: Monday to Friday are sessions but for a list of exceptions.
+ghost use Rattle.std.specs.Prelude.{◌≡◌, ℕ, ◌+◌, List, ◌∷◌, IfOk};
 ghost use Rattle.calendar.specs.declared.rule.Exception.{Exception};
-ghost use Rattle.calendar.specs.Kinds.{of_mark, of_week, excepted, ruled};
-ghost use Rattle.calendar.specs.Ruled.{rule_kinds, Tells};
+ghost use Rattle.calendar.specs.Kinds.{kind_of_mark};
+ghost use Rattle.calendar.specs.RuleCalendars.{week_kind, kind_with_exceptions, kinds_of_exceptions, rule_kinds, ListsKinds};
 ghost use Rattle.std.proofs.Common.{rules};
 
 use crate::kind::{Calendar, DayKind};
 use dates::{LAST_DAY, Weekday};
 use std::alloc::{AllocError, Global};
 
-// A day and its kind.
+/// A day whose kind the week does not decide.
 #[derive(Clone, Copy, PartialEq, Eq, Debug)]
 pub struct Exception {
     pub day: u32,
@@ -17,10 +17,10 @@ pub struct Exception {
 }
 
 impl Exception {
-    // A day and the mark of its kind.
+    /// A day and the mark of its kind.
     pub fn of_mark(day: u32, mark: u8) -> Exception
         ensures day { result.day ≡ day }
-        ensures kind { result.kind ≡ of_mark mark }
+        ensures kind { result.kind ≡ kind_of_mark mark }
     {
         Exception {
             day,
@@ -29,15 +29,16 @@ impl Exception {
     }
 }
 
+/// A calendar by the week and a list of exceptions, of which the first for a day decides.
 // The kind of each day from day 0 to the last, worked out once from the exceptions.
 #[derive(Drop)]
 pub struct RuleCalendar {
     days: Vec<DayKind>,
 }
 
-// What the week says.
+// The kind of a day without an exception.
 fn kind_of_week(day: u32) -> DayKind
-    ensures { result ≡ of_week day }
+    ensures { result ≡ week_kind day }
 {
     match Weekday::of_day(day) {
         Weekday::Saturday | Weekday::Sunday => DayKind::ClosedDay,
@@ -45,16 +46,16 @@ fn kind_of_week(day: u32) -> DayKind
     }
 }
 
-// The days without an exception.
+// The kinds of all days, where there is no exception.
 fn weeks(heap: Global) -> Result<Vec<DayKind>, AllocError>
-    ensures { IfOk result (λ v. Tells of_week v.items 36525) }
+    ensures { IfOk result (λ v. ListsKinds week_kind v.items (LAST_DAY + 1)) }
 {
     (0..LAST_DAY + 1).map(kind_of_week).collect(heap)
 }
 
 // Puts in the entry before those that are in already.
 fn enter(days: &mut Vec<DayKind>, exception: Exception)
-    ensures { (rest : List Exception) → Tells (excepted rest) days.old.items 36525 → Tells (excepted (exception ∷ rest)) days.new.items 36525 }
+    ensures { (rest : List Exception) → ListsKinds (kind_with_exceptions rest) days.old.items (LAST_DAY + 1) → ListsKinds (kind_with_exceptions (exception ∷ rest)) days.new.items (LAST_DAY + 1) }
 {
     if let Some(kind) = days.get_mut(exception.day as usize) {
         *kind = exception.kind;
@@ -62,9 +63,10 @@ fn enter(days: &mut Vec<DayKind>, exception: Exception)
 }
 
 impl RuleCalendar {
+    /// The calendar of these exceptions; entries past the last day mean nothing.
     // From the last entry to the first, so that the first entry for a day decides.
     pub fn new(heap: Global, exceptions: &[Exception]) -> Result<RuleCalendar, AllocError>
-        ensures { IfOk result (λ c. (d : ℕ) → rule_kinds c d ≡ ruled exceptions.now d) }
+        ensures { IfOk result (λ c. (d : ℕ) → rule_kinds c d ≡ kinds_of_exceptions exceptions.now d) }
     {
         let mut days = weeks(heap)?;
         for exception in exceptions.iter().rev() {

@@ -1,3 +1,4 @@
+//! Calendars of both makes at their edges.
 use crate::kind::{Calendar, DayKind};
 use crate::marked::MarkedCalendar;
 use crate::rule::{Exception, RuleCalendar};

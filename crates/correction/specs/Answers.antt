@@ -2,7 +2,7 @@
 use Rattle.std.specs.Prelude.{◌≡◌, ℕ, ◌+◌, ◌<◌, ◌≤◌, List, ◌++◌, length, codes, Some, None, Option, Result, MatchResult}
 use Rattle.calendar.specs.declared.kind.DayKind.{DayKind}
 use Rattle.calendar.specs.Spans.{reserve_days}
-use Rattle.dates.specs.Named.{day_text}
+use Rattle.dates.specs.Dates.{day_text}
 use Rattle.correction.specs.declared.Uncorrected.{Uncorrected}
 use Rattle.correction.specs.declared.Uncorrected.TheVariants.{TooLong, MissingRate}
 use Rattle.correction.specs.Carrying.{Carried}

@@ -1,8 +1,8 @@
--- The first days of months in closed form, and the laws of the month of a day. Assumes nothing.
+-- The first days of months in closed form, and the laws of the month of a day.
 use Rattle.std.proofs.Common.{◌≡◌, ℕ, zero, suc, ◌+◌, ◌-◌, ◌*◌, ◌/◌, ◌%◌, ◌<◌, ◌≤◌, cond, eqb, leb, List, [], ◌∷◌, get_or, refl, subst, inl, inr, add-zero, add-suc, le_antisymm, add-one, arith}
 use Rattle.std.proofs.lemmas.Bool.Decides.{nat_tests}
 use Rattle.std.proofs.lemmas.Bool.{leb-true, leb-false, cases_eq, cases_lt, cond_both}
-use Rattle.dates.specs.Months.{leap_year, days_in, month_length, first_day, begun, month_of, Holds}
+use Rattle.dates.specs.Months.{leap_year, days_in, month_length, first_day, begun_months, month_of, Holds}
 
 pub first-day-zero : first_day 0 ≡ 0
 unfolding first_day
@@ -85,7 +85,7 @@ days-end = rw first-day-is
 pub first-day-bound : (m : ℕ) → m ≤ 1199 → first_day m ≤ 36494
 first-day-bound m h = omega (arith, first-day-grows m 1199 h, first-day-is 1199)
 
--- a month that has begun by a day is not after one that has not ended
+-- a month that has begun_months by a day is not after one that has not ended
 not_after : (d m k : ℕ) → first_day m ≤ d → d < first_day (k + 1) → m ≤ k
 not_after d m k from to =
     elim (cases_lt k m) [ inl l ↦ absurd (omega (arith, first-day-grows (k + 1) m (omega arith))) | inr l ↦ l ]
@@ -109,13 +109,13 @@ no_more k d b i h =
       λ l. elim (cases_lt b k) [ inl t ↦ i.2 t | inr t ↦ let s : b + 1 ≡ suc k = omega arith in rw s h ],
     )
 
-counts : (k d : ℕ) → Begun k d (begun k d)
-unfolding begun
+counts : (k d : ℕ) → Begun k d (begun_months k d)
+unfolding begun_months
 counts zero d = (omega arith, omega (arith, first-day-zero), λ h. absurd (omega arith))
 counts (suc k) d =
-    cond_both (leb (first_day (suc k)) d) 1 0 (λ n. Begun (suc k) d (begun k d + n))
-    (λ e. one_more k d (begun k d) (counts k d) (leb-true _ _ e))
-    (λ e. no_more k d (begun k d) (counts k d) (leb-false _ _ e))
+    cond_both (leb (first_day (suc k)) d) 1 0 (λ n. Begun (suc k) d (begun_months k d + n))
+    (λ e. one_more k d (begun_months k d) (counts k d) (leb-true _ _ e))
+    (λ e. no_more k d (begun_months k d) (counts k d) (leb-false _ _ e))
 
 -- the month of a day holds the day
 pub month-holds : (d : ℕ) → d ≤ 36524 → (month_of d ≤ 1199) × Holds (month_of d) d
@@ -125,9 +125,9 @@ month-holds d h =
       i.0,
       (
         i.1,
-        elim (cases_lt (begun 1199 d) 1199) [
+        elim (cases_lt (begun_months 1199 d) 1199) [
           | inl l ↦ i.2 l
-          | inr l ↦ let e : begun 1199 d + 1 ≡ 1200 = omega arith in rw e (omega (arith, days-end))
+          | inr l ↦ let e : begun_months 1199 d + 1 ≡ 1200 = omega arith in rw e (omega (arith, days-end))
         ],
       ),
     )

@@ -1,21 +1,21 @@
--- Dates as ten bytes of text. Assumes nothing.
+-- Dates as ten bytes of text.
 use Rattle.std.proofs.Common.{◌≡◌, ℕ, ◌+◌, ◌-◌, ◌*◌, ◌/◌, ◌%◌, ◌^◌, ◌<◌, ◌≤◌, inl, inr, ◌++◌, List, length, get_or, refl, arith}
 use Rattle.std.specs.Fmt.{styled_decimal, format_spec, padded_integral, char_count}
 use Rattle.std.proofs.lemmas.Bool.{cases_lt}
 use Rattle.std.proofs.lemmas.List.FromFn.{fill_by_all}
 use Rattle.std.proofs.lemmas.Fmt.{decimal_digit, decimal_step}
-use Rattle.dates.specs.Dates.{month_number, two_digits, date_text, Digits, Formed, Undated}
+use Rattle.dates.specs.DateParts.{month_number, two_digits, date_text, AreDigitsOf, HasDateForm, IsTextOfNoDate}
 use Rattle.dates.proofs.MonthLaws.{length_bound}
 
 -- the text of a date has the form of one
-pub undated : (bs : List ℕ) → (Formed bs → ⊥) → Undated bs
+pub undated : (bs : List ℕ) → (HasDateForm bs → ⊥) → IsTextOfNoDate bs
 undated bs no-form y m d r e =
     let l = length_bound (month_number y m) in
     no-form (y, m, d, (omega arith, omega arith, omega arith, e))
 
 -- bs has the two digits of n from place i on
 abbrev Pair : List ℕ → ℕ → ℕ → Type 0
-Pair bs i n = Digits (get_or bs i 0) (get_or bs (i + 1) 0) n
+Pair bs i n = AreDigitsOf (get_or bs i 0) (get_or bs (i + 1) 0) n
 
 pub text-is : (bs : List ℕ) (p q m d : ℕ) → length bs ≡ 10 → Pair bs 0 p → Pair bs 2 q → get_or bs 4 0 ≡ 45
     → Pair bs 5 m → get_or bs 7 0 ≡ 45 → Pair bs 8 d → bs ≡ date_text (100 * p + q) m d

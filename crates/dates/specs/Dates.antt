@@ -1,42 +1,46 @@
--- Dates from 1 January 2000 to 31 December 2099, by year, month and day, their day numbers and their texts. Assumes nothing.
-use Rattle.std.specs.Prelude.{◌≡◌, ℕ, ◌+◌, ◌-◌, ◌*◌, ◌/◌, ◌%◌, ◌<◌, ◌≤◌, List, [], ◌∷◌, ◌++◌, ◌≢◌}
-use Rattle.dates.specs.Months.{month_length, first_day}
+-- The day number and the text of a `Date`, and what is read from a text.
+use Rattle.std.specs.Prelude.{◌≡◌, ℕ, ◌+◌, ◌-◌, ◌%◌, cond, nat_le, List, ◌++◌, Ok, Err, codes, Result}
+use Rattle.std.specs.Fmt.{decimal}
+use Rattle.dates.specs.declared.date.Date.{Date}
+use Rattle.dates.specs.declared.date.DateError.{DateError}
+use Rattle.dates.specs.declared.date.DateError.TheVariants.{Form, NoSuchDate}
+use Rattle.dates.specs.declared.TheConstants.{LAST_DAY}
+use Rattle.dates.specs.Months.{year_of, first_day, month_of}
+use Rattle.dates.specs.DateParts.{IsDate, day_of, date_text, HasDateForm, IsTextOfNoDate}
 
--- the number of a month, January 2000 being 0
-abbrev pub month_number : ℕ → ℕ → ℕ
-month_number year month = (year - 2000) * 12 + month - 1
+-- the day number of a date
+abbrev pub day_number : Date → ℕ
+day_number d = day_of d.year d.month d.day
 
--- there is such a date
-abbrev pub Real : ℕ → ℕ → ℕ → Type 0
-Real year month day =
-    ((2000 ≤ year) × (year ≤ 2099)) × ((1 ≤ month) × (month ≤ 12))
-    × ((1 ≤ day) × (day ≤ month_length (month_number year month)))
+-- the text of a date
+abbrev pub text_of : Date → List ℕ
+text_of d = date_text d.year d.month d.day
 
--- the number of a day, 1 January 2000 being 0
-abbrev pub day_of : ℕ → ℕ → ℕ → ℕ
-day_of year month day = first_day (month_number year month) + day - 1
+-- the text of a day by its number: that of its date, or `day 36525` past the last date
+abbrev pub day_text : ℕ → List ℕ
+day_text n =
+    let m = month_of n in
+    cond (nat_le n LAST_DAY) (date_text (year_of m) (m % 12 + 1) (n - first_day m + 1)) (codes "day " ++ decimal n)
 
--- the two digits of a number below 100
-abbrev pub two_digits : ℕ → List ℕ
-two_digits n = (48 + n / 10) ∷ (48 + n % 10) ∷ []
+-- d is the date y-m-k
+abbrev pub HasParts : Date → ℕ → ℕ → ℕ → Type 0
+HasParts d y m k = (d.year ≡ y) × (d.month ≡ m) × (d.day ≡ k)
 
--- a date as text, as 2026-12-30
-abbrev pub date_text : ℕ → ℕ → ℕ → List ℕ
-date_text year month day =
-    two_digits (year / 100) ++ two_digits (year % 100) ++ (45 ∷ two_digits month) ++ (45 ∷ two_digits day)
+-- no other date than d has this day number
+abbrev pub IsOnlyDateOfDay : Date → ℕ → Type 0
+IsOnlyDateOfDay d n = (y m k : ℕ) → IsDate y m k → day_of y m k ≡ n → HasParts d y m k
 
--- the number n stands as these two digits
-abbrev pub Digits : ℕ → ℕ → ℕ → Type 0
-Digits tens units n = (n < 100) × (tens ≡ 48 + n / 10) × (units ≡ 48 + n % 10)
+-- no other date than d has this text
+abbrev pub IsOnlyDateOfText : Date → List ℕ → Type 0
+IsOnlyDateOfText d text = (y m k : ℕ) → IsDate y m k → text ≡ date_text y m k → HasParts d y m k
 
--- these numbers stand in the text, as 2026, 13 and 99 in 2026-13-99
-abbrev pub Numbers : List ℕ → ℕ → ℕ → ℕ → Type 0
-Numbers text year month day = (year < 10000) × (month < 100) × (day < 100) × (text ≡ date_text year month day)
+-- the date that has the text, or why there is none
+abbrev pub Reads : List ℕ → Result Date DateError → Type 0
+Reads text (Ok d) = (text ≡ text_of d) × IsOnlyDateOfText d text
+Reads text (Err Form) = (HasDateForm text → ⊥) × IsTextOfNoDate text
+Reads text (Err NoSuchDate) = HasDateForm text × IsTextOfNoDate text
 
--- a text of eight digits and two dashes, as 2026-12-30 or 2026-13-99
-abbrev pub Formed : List ℕ → Type 0
-Formed text = (year : ℕ) × (month : ℕ) × (day : ℕ) × Numbers text year month day
-
--- no date has this text
-abbrev pub Undated : List ℕ → Type 0
-Undated text = (year month day : ℕ) → Real year month day → text ≢ date_text year month day
+-- what is said of a text that gives no date
+abbrev pub message : DateError → List ℕ
+message Form = codes "a date is written as 2026-12-30"
+message NoSuchDate = codes "there is no such date from 2000-01-01 to 2099-12-31"

@@ -1,4 +1,4 @@
-pub mod Months
+pub mod DateParts
 pub mod Dates
-pub mod Named
-pub mod Week
+pub mod Months
+pub mod Weekdays

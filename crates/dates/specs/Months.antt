@@ -1,5 +1,6 @@
--- The months from January 2000 on, numbered from 0, and the days from 1 January 2000 on, numbered from 0. Assumes nothing.
+-- The months from January 2000 on, numbered from 0, and the days from 1 January 2000 on, numbered from 0.
 use Rattle.std.specs.Prelude.{ℕ, zero, suc, ◌+◌, ◌/◌, ◌%◌, ◌<◌, ◌≤◌, Bool, cond, ◌||◌, ◌==◌, nat_le}
+use Rattle.dates.specs.declared.TheConstants.{LAST_MONTH}
 
 -- the years from 2000 to 2099 that divide by 4 are leap years
 abbrev pub leap_year : ℕ → Bool
@@ -31,10 +32,10 @@ abbrev pub Holds : ℕ → ℕ → Type 0
 Holds m d = (first_day m ≤ d) × (d < first_day (m + 1))
 
 -- how many of the months 1 to k have begun by the day d
-unfoldable pub begun : ℕ → ℕ → ℕ
-begun zero d = 0
-begun (suc k) d = begun k d + cond (nat_le (first_day (suc k)) d) 1 0
+unfoldable pub begun_months : ℕ → ℕ → ℕ
+begun_months zero d = 0
+begun_months (suc k) d = begun_months k d + cond (nat_le (first_day (suc k)) d) 1 0
 
 -- the month of a day
 unfoldable pub month_of : ℕ → ℕ
-month_of d = begun 1199 d
+month_of d = begun_months LAST_MONTH d

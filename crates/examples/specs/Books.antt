@@ -5,7 +5,7 @@ use Rattle.amounts.specs.declared.trades.Trade.{Trade}
 use Rattle.calendar.specs.declared.kind.DayKind.{DayKind}
 use Rattle.calendar.specs.declared.kind.DayKind.TheVariants.{ClosedDay, SessionDay}
 use Rattle.calendar.specs.declared.rule.Exception.{Exception}
-use Rattle.calendar.specs.Kinds.{ruled}
+use Rattle.calendar.specs.RuleCalendars.{kinds_of_exceptions}
 use Rattle.rates.specs.declared.entry.DayRate.{DayRate}
 use Rattle.rates.specs.Meanings.{Meaning, plain_meaning, under}
 use Rattle.rows.specs.Rows.{Reason, Row, numbered, first_row}
@@ -36,7 +36,7 @@ book_on kinds source = record { number = 1; start = 9860; kinds = kinds; source 
 
 -- the same, on a rule calendar with these exceptions and a source without a rate yet
 abbrev pub book_with : List Exception → World
-book_with exceptions = book_on (ruled exceptions) no_rates
+book_with exceptions = book_on (kinds_of_exceptions exceptions) no_rates
 
 -- Monday to Friday are sessions
 abbrev pub weekdays : World

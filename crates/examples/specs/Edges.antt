@@ -1,7 +1,7 @@
 -- The rows of each call at their edges: the last call that passes and the first that is refused, by which reason, and what comes back with it.
 use Rattle.std.specs.Prelude.{◌≡◌, ℕ, List, [], ◌∷◌, ◌++◌, map, replicate, Some, None, Option}
 use Rattle.std.specs.List.{range_with_len}
-use Rattle.calendar.specs.Kinds.{ruled}
+use Rattle.calendar.specs.RuleCalendars.{kinds_of_exceptions}
 use Rattle.rates.specs.Meanings.{Meaning, plain_meaning, under}
 use Rattle.rows.specs.Rows.{Reason, Row, numbered}
 use Rattle.examples.specs.Books.{day_rate, ten_days, book_on, weekdays, only_session, client, clients, of_day, order, nothing, in_session, after_close, Same, Refuse, refusal, refusal_with}
@@ -19,11 +19,11 @@ days_arbitrated n =
 
 -- a book on that source
 abbrev pub layer_with : ℕ → World
-layer_with n = book_on (ruled []) (days_arbitrated n)
+layer_with n = book_on (kinds_of_exceptions []) (days_arbitrated n)
 
 -- a book on a source that publishes the rate of 10 % on each day
 abbrev pub all_rates : World
-all_rates = book_on (ruled []) (under [] (ten_days (λ _. Some 10000000)))
+all_rates = book_on (kinds_of_exceptions []) (under [] (ten_days (λ _. Some 10000000)))
 
 -- three accounts, May 2033 as month 0, the given month as month 1, and a session of this day
 abbrev pub session_on : ℕ → ℕ → History
@@ -124,7 +124,7 @@ arbitrate_edges =
     ∷ (arbitrate_rows (layer_with 15) (Published (day_rate 9860 0) ∷ []) (day_rate 9861 1), None)
     ∷ (arbitrate_rows (layer_with 15) (Arbitrated (day_rate 9860 0) ∷ []) (day_rate 9861 1), refusal 25)
     -- the days of the layer below count for nothing
-    ∷ (arbitrate_rows (book_on (ruled []) (under [] (days_arbitrated 16))) [] (day_rate 9860 1), None)
+    ∷ (arbitrate_rows (book_on (kinds_of_exceptions []) (under [] (days_arbitrated 16))) [] (day_rate 9860 1), None)
     ∷ []
 
 -- an open session, and sixty days without one

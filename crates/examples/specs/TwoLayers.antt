@@ -1,7 +1,7 @@
 -- A source with two layers: each rate stays where it was set, and an inner layer keeps its days.
 use Rattle.std.specs.Prelude.{◌≡◌, ℕ, List, [], ◌∷◌, map, cond, Some, None, Option, ◌==◌}
 use Rattle.std.specs.List.{range_with_len}
-use Rattle.calendar.specs.Kinds.{ruled}
+use Rattle.calendar.specs.RuleCalendars.{kinds_of_exceptions}
 use Rattle.rates.specs.Meanings.{under}
 use Rattle.examples.specs.Books.{day_rate, ten_days, book_on, Refuse, refusal}
 use Rattle.model.specs.History.{History, Published, Arbitrated}
@@ -12,7 +12,7 @@ use Rattle.model.specs.World.{World}
 
 -- 9,861 is published below, and 9,860 arbitrated in the inner layer; the topmost has no day
 abbrev pub two_layer_book : World
-two_layer_book = book_on (ruled []) (under [] (under (day_rate 9860 14650000 ∷ []) (ten_days (λ d. cond (d == 9861) (Some 14700000) None))))
+two_layer_book = book_on (kinds_of_exceptions []) (under [] (under (day_rate 9860 14650000 ∷ []) (ten_days (λ d. cond (d == 9861) (Some 14700000) None))))
 
 -- through both layers 9,862 is published, and 9,863 is arbitrated in the topmost
 abbrev pub two_rates : History
@@ -21,7 +21,7 @@ two_rates = Arbitrated (day_rate 9863 15000000) ∷ Published (day_rate 9862 148
 -- 9,860 is published at 1, it and 9,861 are in the inner layer at 2, and both and 9,862 in the topmost at 3
 abbrev pub three_places : World
 three_places =
-    book_on (ruled [])
+    book_on (kinds_of_exceptions [])
     (under (day_rate 9860 3 ∷ day_rate 9861 3 ∷ day_rate 9862 3 ∷ [])
     (under (day_rate 9860 2 ∷ day_rate 9861 2 ∷ []) (ten_days (λ d. cond (d == 9860) (Some 1) None))))
 

@@ -6,7 +6,7 @@ use Rattle.std.proofs.lemmas.List.Recursion.{or_push}
 use Rattle.std.proofs.lemmas.Bool.{true≢false, eq-eqb, leb-true, or_left, or_right, cases_order}
 use Rattle.dates.specs.Months.{first_day}
 use Rattle.calendar.specs.declared.kind.DayKind.{DayKind}
-use Rattle.calendar.specs.Spans.{First, first_session, expiry_of}
+use Rattle.calendar.specs.Spans.{IsFirstSession, first_session, expiry_of}
 use Rattle.calendar.proofs.Spans.{is-first}
 use Rattle.pricing.specs.Pricing.{expiry_day}
 use Rattle.model.specs.History.{History, Event, Listed, Opened, month_listed}
@@ -30,11 +30,11 @@ pub months-stay : (w : World) (h : History) (e : Event) (m : ℕ) → m < length
 months-stay w h e m i = ap (expiry_day w.kinds) (month-stays h e m i)
 
 -- an expiry is the first session day of its month
-pub expiry-first : (kinds : ℕ → DayKind) (n e : ℕ) → expiry_of kinds n ≡ Some e → (n ≤ 1199) × First kinds (first_day n) (first_day (n + 1)) (Some e)
+pub expiry-first : (kinds : ℕ → DayKind) (n e : ℕ) → expiry_of kinds n ≡ Some e → (n ≤ 1199) × IsFirstSession kinds (first_day n) (first_day (n + 1)) (Some e)
 expiry-first kinds n e is = by (leb n 1199) refl is
   where
     by : (b : Bool) → leb n 1199 ≡ b → cond b (first_session kinds (first_day n) (first_day (n + 1))) None ≡ Some e
-        → (n ≤ 1199) × First kinds (first_day n) (first_day (n + 1)) (Some e)
+        → (n ≤ 1199) × IsFirstSession kinds (first_day n) (first_day (n + 1)) (Some e)
     by true t i = (leb-true n 1199 t, is-first kinds (first_day n) (first_day (n + 1)) (Some e) (sym i))
     by false t i = absurd cc
 
@@ -44,7 +44,7 @@ record Expires (w : World) (latest : Option ℕ) (days : List ℕ) (n : ℕ) : T
   met : (next_from w.start latest ≤ expiry_day w.kinds n) ⊎ (list_any (eqb (expiry_day w.kinds n)) days ≡ true)
 
 -- the next session is before the expiry or is it
-step : (w : World) (latest : Option ℕ) (days : List ℕ) (d to : ℕ) → First w.kinds (next_from w.start latest) to (Some d)
+step : (w : World) (latest : Option ℕ) (days : List ℕ) (d to : ℕ) → IsFirstSession w.kinds (next_from w.start latest) to (Some d)
     → (n : ℕ) → Expires w latest days n → Expires w (Some d) (days ++ d ∷ []) n
 step w latest days d to f n x = record { first = x.first; met = by x.met }
   where
@@ -88,7 +88,7 @@ expires-at w h m l i = All-get_or (Expires w (latest_opened h) (opened_days h)) 
 
 -- the expiry of a listed month is the first session day of its month
 pub expiry-is : (w : World) (h : History) (m : ℕ) → Lawful w h → m < length (months_of h)
-    → (month_at h m ≤ 1199) × First w.kinds (first_day (month_at h m)) (first_day (month_at h m + 1)) (Some (expiry_at w h m))
+    → (month_at h m ≤ 1199) × IsFirstSession w.kinds (first_day (month_at h m)) (first_day (month_at h m + 1)) (Some (expiry_at w h m))
 expiry-is w h m l i = expiry-first w.kinds (month_at h m) (expiry_at w h m) (expires-at w h m l i).first
 
 -- an expiry that is not still to come was opened

@@ -9,7 +9,7 @@ use Rattle.std.proofs.lemmas.Bool.{both_ways, cases_lt, and_parts, cond_both}
 use Rattle.calendar.specs.declared.kind.DayKind.{DayKind}
 use Rattle.calendar.specs.Kinds.{is_reserve}
 use Rattle.calendar.proofs.Spans.{days-none}
-use Rattle.calendar.specs.Spans.{First, days_by, reserve_days, first_in}
+use Rattle.calendar.specs.Spans.{IsFirstSession, days_by, reserve_days, first_in}
 use Rattle.correction.specs.Gaps.{factor_on, factors, corrected_price}
 use Rattle.interest.specs.Correction.{corrected_day, corrected}
 use Rattle.interest.specs.Price.{day_factor}
@@ -107,7 +107,7 @@ days-few t k from to =
 
 -- a session that is the first of the 60 days after the latest closed one has a short gap
 first_short : (w : World) (d : ℕ) (ss : List Session) (latest : Option ℕ) → latest ≡ first_in (map (λ s. s.day) ss)
-    → First w.kinds (next_from w.start latest) (next_from w.start latest + 60) (Some d) → length (gap_to w d ss) ≤ 60
+    → IsFirstSession w.kinds (next_from w.start latest) (next_from w.start latest + 60) (Some d) → length (gap_to w d ss) ≤ 60
 first_short w d [] latest e f = omega arith
 first_short w d (s ∷ ss) latest e f =
     let b : d < s.day + 1 + 60 = rw e at f.1 in

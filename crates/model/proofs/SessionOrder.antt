@@ -5,7 +5,7 @@ use Rattle.std.proofs.lemmas.Bool.Decides.{Decides-eqb, Decides-by_or}
 use Rattle.std.proofs.ByRecursion.{All-get_or, All-push, All-weaker}
 use Rattle.std.proofs.lemmas.Bool.{le-leb}
 use Rattle.calendar.specs.Kinds.{is_session}
-use Rattle.calendar.specs.Spans.{First}
+use Rattle.calendar.specs.Spans.{IsFirstSession}
 use Rattle.calendar.proofs.Spans.{is-first}
 use Rattle.model.specs.History.{History, Opened, Closed}
 use Rattle.model.specs.Lawful.{Lawful}
@@ -33,7 +33,7 @@ pub record InOrder (w : World) (days : List ℕ) (latest now : Option ℕ) (ss :
   pub on-session : (d : ℕ) → latest ≡ Some d → is_session (w.kinds d) ≡ true
 
 opens : (w : World) (days : List ℕ) (latest : Option ℕ) (ss : List Session) (d to : ℕ)
-    → First w.kinds (next_from w.start latest) to (Some d) → InOrder w days latest None ss → InOrder w (days ++ d ∷ []) (Some d) (Some d) ss
+    → IsFirstSession w.kinds (next_from w.start latest) to (Some d) → InOrder w days latest None ss → InOrder w (days ++ d ∷ []) (Some d) (Some d) ss
 opens w days latest ss d to f o = record {
   days-below = All-push (λ x. x < d + 1) days d (All-weaker (λ x. x < next_from w.start latest) (λ x. x < d + 1) (λ x h. omega (arith, f.0)) days o.days-below) (omega arith);
   closed-below = All-weaker (λ s. s.day < next_from w.start latest) (λ s. s.day < d + 1) (λ s h. omega (arith, f.0)) ss o.closed-below;
@@ -59,7 +59,7 @@ closes w days latest now ss s e f o = record {
 
 -- an opened session is the first since the latest
 pub next-first : (w : World) (h : History) (d : ℕ) → Lawful w (Opened d ∷ h)
-    → First w.kinds (next_from w.start (latest_opened h)) (next_from w.start (latest_opened h) + 60) (Some d)
+    → IsFirstSession w.kinds (next_from w.start (latest_opened h)) (next_from w.start (latest_opened h) + 60) (Some d)
 next-first w h d l = is-first w.kinds (next_from w.start (latest_opened h)) (next_from w.start (latest_opened h) + 60) (Some d) (sym l.0.1)
 
 pub in_order : (w : World) (h : History) → Lawful w h → InOrder w (opened_days h) (latest_opened h) (open_session h) (sessions_of w h)

@@ -3,7 +3,7 @@ use Rattle.std.specs.Prelude.{◌≡◌, ℕ, ◌+◌, ◌<◌, ◌≤◌, true,
 use Rattle.std.specs.List.{AllByRecursion, list_any}
 use Rattle.calendar.specs.Kinds.{is_session}
 use Rattle.calendar.specs.declared.span.TheConstants.{MAX_SESSION_SEARCH_DAYS}
-use Rattle.calendar.specs.Spans.{reserve_days, First}
+use Rattle.calendar.specs.Spans.{reserve_days, IsFirstSession}
 use Rattle.correction.specs.Gaps.{first_unrated}
 use Rattle.pricing.specs.Pricing.{distance}
 use Rattle.amounts.specs.declared.trades.Trade.{Trade}
@@ -20,7 +20,7 @@ use Rattle.model.specs.World.{World}
 abbrev pub SessionsRise : Type 0
 SessionsRise = (w : World) (h : History) (d : ℕ) → Lawful w (Opened d ∷ h)
     → AllByRecursion (λ x. x < d) (opened_days h)
-    × First w.kinds (next_from w.start (latest_opened h)) (next_from w.start (latest_opened h) + MAX_SESSION_SEARCH_DAYS) (Some d)
+    × IsFirstSession w.kinds (next_from w.start (latest_opened h)) (next_from w.start (latest_opened h) + MAX_SESSION_SEARCH_DAYS) (Some d)
 
 -- a rate once known stays, whatever happens
 abbrev pub RatesStay : Type 0

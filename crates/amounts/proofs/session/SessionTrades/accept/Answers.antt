@@ -1,4 +1,4 @@
-use Rattle.std.proofs.Common.{◌<◌, ◌≤◌, ◌^◌, take, length, arith, rules}
+use Rattle.std.proofs.Common.{◌<◌, take, length, arith, rules}
 use Rattle.std.proofs.lemmas.List.{length_push, take_more_set}
 use Rattle.amounts.specs.Trades.{FitsTables}
 use Rattle.amounts.proofs.Summing.{side-room, sums-more}

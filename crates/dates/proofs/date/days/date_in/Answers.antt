@@ -1,8 +1,0 @@
-use Rattle.std.proofs.Common.{refl}
-use Rattle.dates.proofs.DateLaws.{one-date, dated}
-use Rattle.dates.proofs.date.days.date_in.Goals as goal
-
-pub returns : goal.returns
-returns c =
-    let r = dated c.args.month c.args.day c.requires.month c.requires.day in
-    record { value = r.1; only = one-date _ _ _ _ r.0 refl }
