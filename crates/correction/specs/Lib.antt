@@ -1,3 +1,2 @@
 pub mod Gaps
-pub mod Carrying
-pub mod Answers
+pub mod Errors

@@ -1,0 +1,113 @@
+// Prices of one session corrected to a later one.
+ghost use Rattle.std.specs.Prelude.{◌≡◌, ℕ, ◌^◌, ◌<◌, ◌≤◌, true, map, is_some, Some, None, IfOk, MatchResult, slice_index};
+ghost use Rattle.std.specs.Result.{result_err};
+ghost use Rattle.interest.specs.Correction.{corrected_day};
+ghost use Rattle.rates.specs.Meanings.{rates_of};
+ghost use Rattle.correction.specs.Gaps.{factor_on, corrected_price, corrected_prices};
+ghost use Rattle.correction.specs.Errors.{gap_fault};
+ghost use Rattle.correction.specs.declared.error.Uncorrected.TheVariants.{MissingRate};
+
+use crate::error::Uncorrected;
+use calendar::kind::Calendar;
+use calendar::span::count_reserve_days;
+use dates::LAST_DAY;
+use interest::{correct_day, day_factor};
+use rates::source::RateSource;
+
+/// The most reserve days of a gap: a year of them.
+pub const MAX_GAP_DAYS: u32 = 252;
+
+/// The day of a session, a later one, and the price of the session, in hundredths of a point. The
+/// gap's days are those from the first, included, to the other, excluded.
+#[derive(Clone, Copy, PartialEq, Eq, Debug)]
+pub struct Gap {
+    pub from: u32,
+    pub to: u32,
+    pub price: u32,
+}
+
+/// The price of a gap's session, corrected over the reserve days of the gap: each multiplies it by
+/// the day's own factor and rounds it, halves up.
+// Kept: two parameters: counting days takes the calendar alone, a rate of a day the source alone; a pair would be taken apart at once.
+pub fn correct<C: Calendar, S: RateSource>(
+    calendar: &C,
+    source: &S,
+    gap: Gap,
+) -> Result<u64, Uncorrected>
+    ensures fault { result_err result ≡ gap_fault (C.kinds calendar.now) (rates_of (S.meaning source.now)) gap.from gap.to }
+    ensures value { IfOk result (λ p. p ≡ corrected_price (C.kinds calendar.now) (rates_of (S.meaning source.now)) gap.from gap.to gap.price) }
+{
+    let [price] = correct_prices(calendar, source, gap.from, gap.to, [gap.price])?;
+    Ok(price)
+}
+
+/// Prices of the session of the day `from`, each corrected over the reserve days from there,
+/// included, to `to`, excluded, in one walk that works out one factor a day.
+pub fn correct_prices<C: Calendar, S: RateSource, const N: usize>(
+    calendar: &C,
+    source: &S,
+    from: u32,
+    to: u32,
+    prices: [u32; N],
+) -> Result<[u64; N], Uncorrected>
+    ensures fault { result_err result ≡ gap_fault (C.kinds calendar.now) (rates_of (S.meaning source.now)) from to }
+    ensures value { IfOk result (λ ps. ps ≡ corrected_prices (C.kinds calendar.now) (rates_of (S.meaning source.now)) from to prices.entry) }
+{
+    if count_reserve_days(calendar, from, to) > MAX_GAP_DAYS {
+        return Err(Uncorrected::TooLong);
+    }
+    let mut corrected = widened(prices);
+    let end = to.min(LAST_DAY + 1);
+    for day in from..end {
+        if !calendar.kind(day).is_reserve() {
+            continue;
+        }
+        let factor = factor_of(source, day)?;
+        corrected = each_after_day(corrected, factor);
+    }
+    Ok(corrected)
+}
+
+// Prices with room to grow over a gap.
+fn widened<const N: usize>(prices: [u32; N]) -> [u64; N]
+    ensures same { result ≡ prices.entry }
+    ensures small { (i : ℕ) → slice_index result i < 2 ^ 32 }
+{
+    let mut wide = [0; N];
+    for i in 0..N {
+        wide[i] = prices[i] as u64;
+    }
+    wide
+}
+
+// The factor of a day, by its own rate.
+fn factor_of<S: RateSource>(source: &S, day: u32) -> Result<u32, Uncorrected>
+    ensures { MatchResult result
+        (λ g. (is_some (rates_of (S.meaning source.now) day) ≡ true) × (g ≡ factor_on (rates_of (S.meaning source.now)) day) × (g ≤ 100275437))
+        (λ e. (e ≡ MissingRate day) × (rates_of (S.meaning source.now) day ≡ None)) }
+{
+    let rate = source.rate(day).ok_or(Uncorrected::MissingRate(day))?;
+    Ok(day_factor(rate).unwrap())
+}
+
+// Each price after one reserve day of this factor.
+fn each_after_day<const N: usize>(prices: [u64; N], factor: u32) -> [u64; N]
+    requires small { (i : ℕ) → slice_index prices i ≤ 90000000000 }
+    requires rated { factor ≤ 100275437 }
+    ensures { result ≡ map (λ p. corrected_day p factor) prices.entry }
+{
+    let mut corrected = prices;
+    for i in 0..N {
+        corrected[i] = after_day(prices[i], factor);
+    }
+    corrected
+}
+
+// A price after one reserve day of this factor.
+fn after_day(price: u64, factor: u32) -> u64
+    requires small { price ≤ 90000000000 }
+    requires rated { factor ≤ 100275437 }
+    ensures { result ≡ corrected_day price factor }
+{
+    correct_day(price, factor).unwrap()
+}
