@@ -1,2 +1,3 @@
 pub mod Gaps
 pub mod Errors
+pub mod Walks

@@ -1,9 +1,12 @@
 // Prices of one session corrected to a later one.
-ghost use Rattle.std.specs.Prelude.{◌≡◌, ℕ, ◌^◌, ◌<◌, ◌≤◌, true, map, is_some, Some, None, IfOk, MatchResult, slice_index};
+ghost use Rattle.std.specs.Prelude.{◌≡◌, ℕ, ◌^◌, ◌<◌, ◌≤◌, true, List, length, map, is_some, Some, None, IfOk, MatchResult, nat_lt, slice_index};
+ghost use Rattle.std.specs.Option.{option_map};
 ghost use Rattle.std.specs.Result.{result_err};
+ghost use Rattle.calendar.specs.Spans.{reserve_days};
 ghost use Rattle.interest.specs.Correction.{corrected_day};
 ghost use Rattle.rates.specs.Meanings.{rates_of};
-ghost use Rattle.correction.specs.Gaps.{factor_on, corrected_price, corrected_prices};
+ghost use Rattle.correction.specs.Gaps.{factor_on, first_unrated, corrected_price, corrected_prices};
+ghost use Rattle.correction.specs.Walks.{CorrectedTo, NextDay};
 ghost use Rattle.correction.specs.Errors.{gap_fault};
 ghost use Rattle.correction.specs.declared.error.Uncorrected.TheVariants.{MissingRate};
 
@@ -53,19 +56,17 @@ pub fn correct_prices<C: Calendar, S: RateSource, const N: usize>(
     ensures fault { result_err result ≡ gap_fault (C.kinds calendar.now) (rates_of (S.meaning source.now)) from to }
     ensures value { IfOk result (λ ps. ps ≡ corrected_prices (C.kinds calendar.now) (rates_of (S.meaning source.now)) from to prices.entry) }
 {
-    if count_reserve_days(calendar, from, to) > MAX_GAP_DAYS {
+    if is_long(calendar, from, to) {
         return Err(Uncorrected::TooLong);
     }
-    let mut corrected = widened(prices);
-    let end = to.min(LAST_DAY + 1);
-    for day in from..end {
-        if !calendar.kind(day).is_reserve() {
-            continue;
-        }
-        let factor = factor_of(source, day)?;
-        corrected = each_after_day(corrected, factor);
-    }
-    Ok(corrected)
+    walk(calendar, source, from, to, widened(prices))
+}
+
+// Whether a gap has too many reserve days.
+fn is_long<C: Calendar>(calendar: &C, from: u32, to: u32) -> bool
+    ensures { result ≡ nat_lt MAX_GAP_DAYS (length (reserve_days (C.kinds calendar.now) from to)) }
+{
+    count_reserve_days(calendar, from, to) > MAX_GAP_DAYS
 }
 
 // Prices with room to grow over a gap.
@@ -78,6 +79,46 @@ fn widened<const N: usize>(prices: [u32; N]) -> [u64; N]
         wide[i] = prices[i] as u64;
     }
     wide
+}
+
+// Corrects prices over the days of a gap that is not too long, one by one.
+fn walk<C: Calendar, S: RateSource, const N: usize>(
+    calendar: &C,
+    source: &S,
+    from: u32,
+    to: u32,
+    prices: [u64; N],
+) -> Result<[u64; N], Uncorrected>
+    requires short { length (reserve_days (C.kinds calendar.now) from to) ≤ MAX_GAP_DAYS }
+    requires small { (i : ℕ) → slice_index prices i < 2 ^ 32 }
+    ensures fault { result_err result ≡ option_map MissingRate (first_unrated (rates_of (S.meaning source.now)) (reserve_days (C.kinds calendar.now) from to)) }
+    ensures value { IfOk result (λ ps. ps ≡ corrected_prices (C.kinds calendar.now) (rates_of (S.meaning source.now)) from to prices.entry) }
+{
+    let end = to.min(LAST_DAY + 1);
+    let mut corrected = prices;
+    for day in from..end {
+        corrected = on_day(calendar, source, day, corrected)?;
+    }
+    Ok(corrected)
+}
+
+// Prices that were corrected to a day, corrected over that day too, if it is a reserve day.
+fn on_day<C: Calendar, S: RateSource, const N: usize>(
+    calendar: &C,
+    source: &S,
+    day: u32,
+    corrected: [u64; N],
+) -> Result<[u64; N], Uncorrected>
+    requires { (i : ℕ) → slice_index corrected i ≤ 90000000000 }
+    ensures { (from : ℕ) (prices : List ℕ) → from ≤ day
+        → CorrectedTo (C.kinds calendar.now) (rates_of (S.meaning source.now)) from day prices corrected.entry
+        → NextDay (C.kinds calendar.now) (rates_of (S.meaning source.now)) from day prices result }
+{
+    if !calendar.kind(day).is_reserve() {
+        return Ok(corrected);
+    }
+    let factor = factor_of(source, day)?;
+    Ok(each_after_day(corrected, factor))
 }
 
 // The factor of a day, by its own rate.

@@ -1,6 +1,6 @@
 use Rattle.std.proofs.Common.{add-one, arith}
 use Rattle.interest.specs.Correction.{corrected_day}
-use Rattle.correction.proofs.Walks.{change-more}
+use Rattle.correction.proofs.WalkLaws.{change-more}
 use Rattle.correction.proofs.gap.each_after_day.Goals as goal
 
 pub loop-i-preserved : goal.loop-i-preserved

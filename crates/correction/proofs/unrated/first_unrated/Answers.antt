@@ -5,7 +5,7 @@ use Rattle.std.proofs.lemmas.Iterator.Search.{find_from_yields_List}
 use Rattle.calendar.specs.Kinds.{is_reserve}
 use Rattle.rates.specs.Meanings.{rates_of}
 use Rattle.correction.specs.Gaps.{is_unrated}
-use Rattle.correction.proofs.Walks.{unrated-found}
+use Rattle.correction.proofs.WalkLaws.{unrated-found}
 use Rattle.correction.proofs.unrated.first_unrated.Goals as goal
 
 pub returns : goal.returns

@@ -2,7 +2,6 @@
 use Rattle.std.proofs.Common.{◌≡◌, ℕ, zero, suc, ◌+◌, ◌-◌, ◌*◌, ◌/◌, ◌<◌, ◌≤◌, min, Bool, true, false, cond, not, ◌&&◌, List, [], ◌∷◌, ◌++◌, length, map, take, drop, get_or, slice_set, is_some, Some, None, filter, Option, option_map, sym, refl, ap, ◌∙◌, mul-le-mul_left, arith}
 use Rattle.std.specs.List.{range_with_len, find}
 use Rattle.std.proofs.lemmas.Iterator.Adapters.{option_map_id}
-use Rattle.std.proofs.lemmas.Bool.{le-ltb}
 use Rattle.std.proofs.lemmas.List.Elements.{filter-append}
 use Rattle.std.proofs.lemmas.List.{append-nil, map-append, length-append}
 use Rattle.calendar.specs.declared.kind.DayKind.{DayKind}
@@ -12,9 +11,8 @@ use Rattle.calendar.specs.Spans.{reserve_days, first_in, days_by}
 use Rattle.calendar.proofs.Spans.{days-none, days-more, days-split, days-head, days-end, past-last}
 use Rattle.interest.specs.Correction.{corrected, corrected_day}
 use Rattle.interest.proofs.Carried.{corrected-none, corrected-more}
-use Rattle.correction.specs.declared.error.Uncorrected.TheVariants.{MissingRate}
-use Rattle.correction.specs.Errors.{gap_fault}
 use Rattle.correction.specs.Gaps.{factor_on, factors, is_unrated, first_unrated, corrected_price, corrected_prices}
+use Rattle.correction.specs.Walks.{CorrectedTo}
 
 -- a range has the days that it has up to the end of the calendar
 whole : (kinds : ℕ → DayKind) → ((d : ℕ) → 36524 < d → kinds d ≡ ClosedDay) → (from to end : ℕ) → end ≡ min to 36525
@@ -59,12 +57,6 @@ change-more change d (x ∷ xs) (suc i) h = ap (λ l. change x ∷ l) (change-mo
 
 -- ---- a walk over the days of a gap
 
--- prices on the way, from a day to another: so far corrected, each reserve day so far has a rate, and how great they can be
-pub record Walked (kinds : ℕ → DayKind) (rates : ℕ → Option ℕ) (from day : ℕ) (prices now : List ℕ) : Type 0 where
-  pub value : now ≡ corrected_prices kinds rates from day prices
-  pub rated : filter (is_unrated rates) (reserve_days kinds from day) ≡ []
-  pub most : (i : ℕ) → get_or now i 0 ≤ 4294967296 + 280000000 * length (reserve_days kinds from day)
-
 same-prices : (kinds : ℕ → DayKind) (rates : ℕ → Option ℕ) (from day : ℕ) → reserve_days kinds from day ≡ [] → (prices : List ℕ) → corrected_prices kinds rates from day prices ≡ prices
 same-prices kinds rates from day none [] = refl
 same-prices kinds rates from day none (p ∷ ps) =
@@ -72,8 +64,8 @@ same-prices kinds rates from day none (p ∷ ps) =
     let rest = same-prices kinds rates from day none ps in
     cc
 
-pub walked_none : (kinds : ℕ → DayKind) (rates : ℕ → Option ℕ) (from : ℕ) (prices now : List ℕ) → now ≡ prices → ((i : ℕ) → get_or now i 0 < 4294967296) → Walked kinds rates from from prices now
-walked_none kinds rates from prices now same fits =
+pub corrected_none : (kinds : ℕ → DayKind) (rates : ℕ → Option ℕ) (from : ℕ) (prices now : List ℕ) → now ≡ prices → ((i : ℕ) → get_or now i 0 < 4294967296) → CorrectedTo kinds rates from from prices now
+corrected_none kinds rates from prices now same fits =
     let none = days-none is_reserve kinds from from (omega arith) in
     record {
       value = same ∙ sym (same-prices kinds rates from from none prices);
@@ -82,9 +74,9 @@ walked_none kinds rates from prices now same fits =
     }
 
 -- a day that is no reserve day changes nothing
-pub walked-skip : (kinds : ℕ → DayKind) (rates : ℕ → Option ℕ) (from day : ℕ) (prices now : List ℕ) → from ≤ day → is_reserve (kinds day) ≡ false
-    → Walked kinds rates from day prices now → Walked kinds rates from (day + 1) prices now
-walked-skip kinds rates from day prices now h no-day c =
+pub corrected-skip : (kinds : ℕ → DayKind) (rates : ℕ → Option ℕ) (from day : ℕ) (prices now : List ℕ) → from ≤ day → is_reserve (kinds day) ≡ false
+    → CorrectedTo kinds rates from day prices now → CorrectedTo kinds rates from (day + 1) prices now
+corrected-skip kinds rates from day prices now h no-day c =
     let e : reserve_days kinds from (day + 1) ≡ reserve_days kinds from day =
     days-more is_reserve kinds from day h ∙ ap (λ b. reserve_days kinds from day ++ cond b (day ∷ []) []) no-day ∙ append-nil (reserve_days kinds from day) in
     record {
@@ -113,11 +105,11 @@ more-prices kinds rates from day g is e (p ∷ ps) =
     cc
 
 -- a reserve day with a rate
-pub walked-more : (kinds : ℕ → DayKind) (rates : ℕ → Option ℕ) (from day g : ℕ) (prices now next : List ℕ) → from ≤ day → is_reserve (kinds day) ≡ true
+pub corrected-further : (kinds : ℕ → DayKind) (rates : ℕ → Option ℕ) (from day g : ℕ) (prices now next : List ℕ) → from ≤ day → is_reserve (kinds day) ≡ true
     → (is_some (rates day) ≡ true) × (g ≡ factor_on rates day) × (g ≤ 100275437) → next ≡ map (λ p. corrected_day p g) now
-    → length (reserve_days kinds from day) ≤ 252
-    → Walked kinds rates from day prices now → Walked kinds rates from (day + 1) prices next
-walked-more kinds rates from day g prices now next h a-day has is few c =
+    → ((i : ℕ) → get_or now i 0 ≤ 90000000000)
+    → CorrectedTo kinds rates from day prices now → CorrectedTo kinds rates from (day + 1) prices next
+corrected-further kinds rates from day g prices now next h a-day has is fits c =
     let e : reserve_days kinds from (day + 1) ≡ reserve_days kinds from day ++ day ∷ [] =
     days-more is_reserve kinds from day h ∙ ap (λ b. reserve_days kinds from day ++ cond b (day ∷ []) []) a-day in
     let k : filter (is_unrated rates) (reserve_days kinds from day ++ day ∷ []) ≡ [] =
@@ -131,7 +123,7 @@ walked-more kinds rates from day g prices now next h a-day has is few c =
       rated = ap (filter (is_unrated rates)) e ∙ k;
       most = λ i.
           let b = c.most i in
-          let o = one-day (get_or now i 0) g (omega arith) has.2 in
+          let o = one-day (get_or now i 0) g (fits i) has.2 in
           rw (is, get_or-corrected g now i) (omega arith);
     }
 
@@ -140,42 +132,30 @@ fewer : (kinds : ℕ → DayKind) (from day to : ℕ) → from ≤ day → day �
 fewer kinds from day to h l =
     let e = ap length (days-split is_reserve kinds from day to h l) ∙ length-append (reserve_days kinds from day) (reserve_days kinds day to) in omega arith
 
--- within a short gap so far few days were passed
-pub few_so_far : (kinds : ℕ → DayKind) → ((d : ℕ) → 36524 < d → kinds d ≡ ClosedDay) → (from to end day : ℕ) → end ≡ min to 36525
-    → length (reserve_days kinds from to) ≤ 252 → from ≤ day → day < end → length (reserve_days kinds from day) ≤ 252
-few_so_far kinds ends from to end day e few h l =
+-- prices on the way stay small enough for one day more
+pub small : (kinds : ℕ → DayKind) → ((d : ℕ) → 36524 < d → kinds d ≡ ClosedDay) → (rates : ℕ → Option ℕ) (from to end day : ℕ) (prices now : List ℕ) → end ≡ min to 36525
+    → length (reserve_days kinds from to) ≤ 252 → from ≤ day → day < end → CorrectedTo kinds rates from day prices now → (i : ℕ) → get_or now i 0 ≤ 90000000000
+small kinds ends rates from to end day prices now e few h l c i =
     let w = ap length (whole kinds ends from to end e) in
     let f = fewer kinds from day end h (omega arith) in
+    let m = c.most i in
     omega arith
 
 -- a reserve day without a rate is the first such of every gap that holds it
-missing : (kinds : ℕ → DayKind) → ((d : ℕ) → 36524 < d → kinds d ≡ ClosedDay) → (rates : ℕ → Option ℕ) (from to end day : ℕ) (prices now : List ℕ) → end ≡ min to 36525
-    → from ≤ day → day < end → is_reserve (kinds day) ≡ true → rates day ≡ None
-    → Walked kinds rates from day prices now → first_unrated rates (reserve_days kinds from to) ≡ Some day
-missing kinds ends rates from to end day prices now e h l a-day none c =
-    ap (first_unrated rates) (whole kinds ends from to end e ∙ days-split is_reserve kinds from day end h (omega arith))
-    ∙ ap first_in (filter-append (is_unrated rates) (reserve_days kinds from day) (reserve_days kinds day end)
-    ∙ ap (λ xs. xs ++ filter (is_unrated rates) (reserve_days kinds day end)) c.rated
-    ∙ ap (filter (is_unrated rates)) (days-head is_reserve kinds day end l ∙ ap (λ b. cond b (day ∷ reserve_days kinds (day + 1) end) (reserve_days kinds (day + 1) end)) a-day)
-    ∙ ap (λ b. cond b (day ∷ filter (is_unrated rates) (reserve_days kinds (day + 1) end)) (filter (is_unrated rates) (reserve_days kinds (day + 1) end))) (ap (λ r. not (is_some r)) none))
-
--- in a short gap that is why prices are not corrected
-pub rate_missing : (kinds : ℕ → DayKind) → ((d : ℕ) → 36524 < d → kinds d ≡ ClosedDay) → (rates : ℕ → Option ℕ) (from to end day : ℕ) (prices now : List ℕ) → end ≡ min to 36525
-    → length (reserve_days kinds from to) ≤ 252 → from ≤ day → day < end → is_reserve (kinds day) ≡ true → rates day ≡ None
-    → Walked kinds rates from day prices now → Some (MissingRate day) ≡ gap_fault kinds rates from to
-rate_missing kinds ends rates from to end day prices now e few h l a-day none c =
-    let short = le-ltb 252 (length (reserve_days kinds from to)) few in
-    let first = missing kinds ends rates from to end day prices now e h l a-day none c in
-    rw (short, first) refl
+pub missing : (kinds : ℕ → DayKind) (rates : ℕ → Option ℕ) (from day : ℕ) (prices now : List ℕ) → from ≤ day → is_reserve (kinds day) ≡ true → rates day ≡ None
+    → CorrectedTo kinds rates from day prices now → (to : ℕ) → day < to → first_unrated rates (reserve_days kinds from to) ≡ Some day
+missing kinds rates from day prices now h a-day none c to l =
+    ap (first_unrated rates) (days-split is_reserve kinds from day to h (omega arith))
+    ∙ ap first_in (filter-append (is_unrated rates) (reserve_days kinds from day) (reserve_days kinds day to)
+    ∙ ap (λ xs. xs ++ filter (is_unrated rates) (reserve_days kinds day to)) c.rated
+    ∙ ap (filter (is_unrated rates)) (days-head is_reserve kinds day to l ∙ ap (λ b. cond b (day ∷ reserve_days kinds (day + 1) to) (reserve_days kinds (day + 1) to)) a-day)
+    ∙ ap (λ b. cond b (day ∷ filter (is_unrated rates) (reserve_days kinds (day + 1) to)) (filter (is_unrated rates) (reserve_days kinds (day + 1) to))) (ap (λ r. not (is_some r)) none))
 
 -- the whole gap is walked
 pub arrived : (kinds : ℕ → DayKind) → ((d : ℕ) → 36524 < d → kinds d ≡ ClosedDay) → (rates : ℕ → Option ℕ) (from to end day : ℕ) (prices now : List ℕ) → end ≡ min to 36525
-    → length (reserve_days kinds from to) ≤ 252 → end ≤ day → (from ≤ end → day ≤ end) → (end ≤ from → now ≡ prices) → Walked kinds rates from day prices now
-    → (None ≡ gap_fault kinds rates from to) × (now ≡ corrected_prices kinds rates from to prices)
-arrived kinds ends rates from to end day prices now e few past upto still c =
-    let a = by (end - from) refl in
-    let short = le-ltb 252 (length (reserve_days kinds from to)) few in
-    (rw (short, a.0) refl, a.1)
+    → end ≤ day → (from ≤ end → day ≤ end) → (end ≤ from → now ≡ prices) → CorrectedTo kinds rates from day prices now
+    → (first_unrated rates (reserve_days kinds from to) ≡ None) × (now ≡ corrected_prices kinds rates from to prices)
+arrived kinds ends rates from to end day prices now e past upto still c = by (end - from) refl
   where
     by : (n : ℕ) → end - from ≡ n → (first_unrated rates (reserve_days kinds from to) ≡ None) × (now ≡ corrected_prices kinds rates from to prices)
     by zero f =
