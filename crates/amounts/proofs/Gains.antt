@@ -1,19 +1,12 @@
--- What trades gain: two lists joined, and a list turned round.
-use Rattle.std.proofs.Common.{◌≡◌, ℕ, List, ◌++◌, reverse, ℤ, ◌+ℤ◌}
-use Rattle.amounts.specs.declared.trades.Trade.{Trade}
-use Rattle.amounts.specs.Trades.{contracts_of}
-use Rattle.amounts.specs.Amounts.{gain_of, on_trades}
-use Rattle.amounts.proofs.Totals.{total-append, total-reverse}
+-- How great a gain is.
+use Rattle.std.proofs.Common.{ℕ, ◌*◌, ◌^◌, ◌<◌, ◌≤◌, ℤ, pos, ◌-ℤ◌, nat_abs, mul-le-mul_left, arith}
+use borrow.Author.Differences.{ints}
+use Rattle.amounts.specs.Amounts.{gain_of}
+use Rattle.interest.proofs.Ring.{abs-mul}
 
-module _ (account month price : ℕ) where
-  -- a trade, from its own price to the settlement price
-  abbrev pub gained : Trade → ℤ
-  gained t = gain_of (contracts_of account month t) price t.price
-
-  pub trades-append : (ts us : List Trade) → on_trades account month price (ts ++ us) ≡ on_trades account month price ts +ℤ on_trades account month price us
-  unfolding on_trades
-  trades-append ts us = total-append gained ts us
-
-  pub trades-reverse : (ts : List Trade) → on_trades account month price (reverse ts) ≡ on_trades account month price ts
-  unfolding on_trades
-  trades-reverse ts = total-reverse gained ts
+-- prices differ by less than 2 ^ 32
+pub gain-size : (z : ℤ) (a b : ℕ) → a < 2 ^ 32 → b < 2 ^ 32 → nat_abs (gain_of z a b) ≤ nat_abs z * 4294967296
+unfolding gain_of
+gain-size z a b h k =
+    let d : nat_abs (pos a -ℤ pos b) ≤ 4294967296 = omega (arith, ints) in
+    omega (arith, abs-mul z (pos a -ℤ pos b), mul-le-mul_left (nat_abs z) d)

@@ -1,7 +1,11 @@
 pub mod Accounts
 pub mod Bounds
+pub mod Cells
+pub mod ContractPrices
 pub mod Gains
 pub mod Laws
-pub mod Signs
+pub mod Summing
 pub mod Totals
-pub mod Units
+pub mod Taking
+pub mod Writing
+pub mod Adjusting

@@ -1,8 +1,8 @@
 -- What a close writes for an account in a month, in centavos.
-use Rattle.std.specs.Prelude.{ℕ, ◌≤◌, List, ℤ, pos, ◌+ℤ◌, ◌-ℤ◌, ◌*ℤ◌, unsigned_abs}
+use Rattle.std.specs.Prelude.{ℕ, List, ℤ, pos, ◌+ℤ◌, ◌-ℤ◌, ◌*ℤ◌}
 use Rattle.amounts.specs.declared.trades.Trade.{Trade}
 use Rattle.amounts.specs.Sums.{total}
-use Rattle.amounts.specs.Trades.{contracts_of, Limited}
+use Rattle.amounts.specs.Trades.{contracts_of, position_change}
 
 -- what contracts gain from the price before to the price
 unfoldable pub gain_of : ℤ → ℕ → ℕ → ℤ
@@ -14,13 +14,12 @@ on_trades account month price ts = total (λ t. gain_of (contracts_of account mo
 
 -- the carried position, from the corrected price to the settlement price
 abbrev pub on_carried : ℤ → ℕ → ℕ → ℤ
-on_carried position price corrected = gain_of position price corrected
+on_carried carried price corrected = gain_of carried price corrected
 
 -- the adjustment of the account in the month
 abbrev pub adjustment_of : ℕ → ℕ → ℕ → List Trade → ℤ → ℕ → ℤ
-adjustment_of account month price ts position corrected = on_trades account month price ts +ℤ on_carried position price corrected
+adjustment_of account month price ts carried corrected = on_trades account month price ts +ℤ on_carried carried price corrected
 
--- limited trades, and a position of at most 500,000 contracts, bought or sold
-pub record InRange (ts : List Trade) (position : ℤ) : Type 0 where
-  pub trades : Limited ts
-  pub held : unsigned_abs position ≤ 500000
+-- the position that the session began with: that at its close less what its trades changed
+abbrev pub carried_in : ℕ → ℕ → List Trade → ℤ → ℤ
+carried_in account month ts position = position -ℤ position_change account month ts

@@ -3,20 +3,20 @@ use Rattle.std.specs.Prelude.{ℕ, min, List, [], ◌∷◌, ◌++◌, length, t
 use Rattle.amounts.specs.declared.trades.Side.{Side}
 use Rattle.amounts.specs.declared.trades.Side.TheVariants.{Bought, Sold}
 use Rattle.amounts.specs.declared.trades.Trade.{Trade}
-use Rattle.amounts.specs.Trades.{lots_of}
+use Rattle.amounts.specs.Trades.{contracts_on}
 
 -- the prices of the contracts on a side, one by one: q contracts at p are p, q times
-unfoldable pub units : Side → ℕ → ℕ → List Trade → List ℕ
-units side account month [] = []
-units side account month (t ∷ ts) = replicate (lots_of side account month t) t.price ++ units side account month ts
+unfoldable pub contract_prices : Side → ℕ → ℕ → List Trade → List ℕ
+contract_prices side account month [] = []
+contract_prices side account month (t ∷ ts) = replicate (contracts_on side account month t) t.price ++ contract_prices side account month ts
 
 -- as many contracts as were both bought and sold
 abbrev pub matched : ℕ → ℕ → List Trade → ℕ
-matched account month ts = min (length (units Bought account month ts)) (length (units Sold account month ts))
+matched account month ts = min (length (contract_prices Bought account month ts)) (length (contract_prices Sold account month ts))
 
 -- the first j contracts of a side at their prices
 unfoldable pub firsts : Side → ℕ → ℕ → ℕ → List Trade → ℕ
-firsts side account month j ts = sum (take j (units side account month ts))
+firsts side account month j ts = sum (take j (contract_prices side account month ts))
 
 -- the first contracts sold less the first bought, as many as were both
 abbrev pub day_trade : ℕ → ℕ → List Trade → ℤ

@@ -2,3 +2,9 @@ pub mod Sums
 pub mod Trades
 pub mod Amounts
 pub mod DayTrades
+pub mod Tables
+pub mod SideSums
+pub mod Sessions
+pub mod FirstContracts
+pub mod Rows
+pub mod Closes

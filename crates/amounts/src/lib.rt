@@ -1,15 +1,17 @@
-// What the close of a session writes for an account in a month, from its trades and its position.
+// What the close of a session writes, from its trades, the prices of its months and the positions.
 #![tactic(auto)]
 
-mod amounts;
-mod day;
+mod adjustments;
+mod day_trades;
+mod rows;
 mod session;
+mod sums;
 mod trades;
 
-pub use amounts::{MOST_CARRIED, adjustment};
-pub use day::day_trade;
-pub use session::position_change;
-pub use trades::{AccountMonth, MOST_QUANTITY, MAX_TRADES, Side, Trade, contracts_of};
+pub use adjustments::MonthPrices;
+pub use session::SessionTrades;
+pub use sums::{CELLS, place};
+pub use trades::{MAX_ACCOUNTS, MAX_CONTRACTS, MAX_MONTHS, MAX_POSITION, MAX_TRADES, Side, Trade};
 
 #[cfg(test)]
 mod tests;

@@ -1,56 +1,130 @@
-// The trades of a session, few and small enough to be added up.
-ghost use Rattle.std.specs.Prelude.{◌≡◌, ◌≤◌, length, IfSome, MatchOption, unsigned_abs};
-ghost use Rattle.std.specs.Option.{SomeIff};
-ghost use Rattle.std.proofs.Props.{props};
-ghost use Rattle.amounts.specs.Trades.{position_change, Limited};
-ghost use Rattle.amounts.specs.DayTrades.{units};
+// The trades of a session, with their running sums.
+ghost use Rattle.std.specs.Prelude.{◌≡◌, ◌<◌, [], ◌∷◌, ◌++◌, length, nat_le, IsTrue, ◌↔◌, if◌then◌else◌};
+ghost use Rattle.std.specs.Int.{int_wrap, w64};
+ghost use Rattle.amounts.specs.Closes.{adjustment_in, FitsWithinLimit};
+ghost use Rattle.amounts.specs.DayTrades.{day_trade};
+ghost use Rattle.amounts.specs.Rows.{HasRoom, RowsStand, written_to};
+ghost use Rattle.amounts.specs.Trades.{FitsTables};
 
-use crate::trades::{AccountMonth, MOST_QUANTITY, MAX_TRADES, Side, Trade};
+use crate::adjustments::{Adjustments, MonthPrices};
+use crate::day_trades::{DayTrades, Firsts};
+use crate::rows::{has_room, write_rows};
+use crate::sums::Sums;
+use crate::trades::{MAX_TRADES, Trade};
+use std::marker::Model;
 
-// The trades of a session, in order of acceptance.
-#[derive(Clone, Copy)]
-pub(crate) struct SessionTrades<'a> {
-    pub(crate) trades: &'a [Trade],
-    ghost limited: { Limited trades.now } by { Prim.hlevel props },
+// What stands where there is no trade yet.
+const NO_TRADE: Trade = Trade {
+    buyer: 0,
+    seller: 0,
+    month: 0,
+    rate: 0,
+    contracts: 0,
+    price: 0,
+};
+
+/// The trades of a session, in order of acceptance, with their sums for each account and month.
+#[derive(Drop)]
+pub struct SessionTrades {
+    trades: [Trade; MAX_TRADES],
+    count: usize,
+    sums: Sums,
+    firsts: Firsts,
 }
 
-impl<'a> SessionTrades<'a> {
-    // The trades, if they are few and small enough.
-    pub(crate) fn new(trades: &'a [Trade]) -> Option<SessionTrades<'a>>
-        ensures { MatchOption result (¬ Limited trades.now) (λ s. s.trades.now ≡ trades.now) }
+impl Model for SessionTrades {
+    ghost use Rattle.std.specs.Prelude.{List};
+    ghost use Rattle.amounts.specs.declared.trades.Trade.{Trade};
+
+    ghost Value = { List Trade };
+
+    ghost use Rattle.amounts.specs.Sessions.{trades_in, HoldsSums};
+
+    ghost view = { trades_in };
+
+    ghost invariant = { HoldsSums };
+}
+
+impl SessionTrades {
+    /// A session without a trade.
+    pub fn new() -> SessionTrades
+        ensures { result ≡ [] }
     {
-        if trades.len() > MAX_TRADES || trades.iter().any(|trade| trade.quantity > MOST_QUANTITY) {
-            return None;
+        SessionTrades {
+            trades: [NO_TRADE; MAX_TRADES],
+            count: 0,
+            sums: Sums::new(),
+            firsts: Firsts::new(),
         }
-        Some(SessionTrades { trades })
     }
 
-    // All contracts of the account on a side in the month.
-    // Kept: the bound is that of another sum in each contract (contracts, change, lots matched), so no one type would carry it.
-    pub(crate) fn quantity(&self, side: Side, whose: AccountMonth) -> u32
-        ensures value { result ≡ length (units side whose.account whose.month self.now.trades.now) }
-        ensures most { result ≤ 5120000 }
+    /// Begins a session without a trade.
+    pub fn clear(&mut self)
+        ensures { self.new ≡ [] }
     {
-        self.trades
-            .iter()
-            .map(|trade| trade.lots(side, whose))
-            .sum()
+        self.count = 0;
+        self.sums.clear();
     }
 
-    // The contracts bought less those sold.
-    fn change(&self, whose: AccountMonth) -> i64
-        ensures value { result ≡ position_change whose.account whose.month self.now.trades.now }
-        ensures most { unsigned_abs result ≤ 5120000 }
+    /// Whether there are as many trades as a session may have.
+    pub fn is_full(&self) -> bool
+        ensures { result ≡ nat_le MAX_TRADES (length self.now) }
     {
-        self.quantity(Side::Bought, whose) as i64 - self.quantity(Side::Sold, whose) as i64
+        self.count >= MAX_TRADES
     }
-}
 
-// By how much the trades change the position of the account in a month.
-pub fn position_change(trades: &[Trade], whose: AccountMonth) -> Option<i64>
-    ensures value { SomeIff result (Limited trades.now) (position_change whose.account whose.month trades.now) }
-    ensures most { IfSome result (λ x. unsigned_abs x ≤ 5120000) }
-{
-    let session = SessionTrades::new(trades)?;
-    Some(session.change(whose))
+    /// Takes a trade, where there is room for it: answers whether there was.
+    pub fn accept(&mut self, trade: Trade) -> bool
+        ensures room { IsTrue result ↔ ((length self.old < MAX_TRADES) × FitsTables trade) }
+        ensures trades { self.new ≡ (if result then self.old ++ trade ∷ [] else self.old) }
+    {
+        if self.count >= MAX_TRADES || !trade.fits_tables() {
+            return false;
+        }
+        self.sums.add(trade);
+        self.trades[self.count] = trade;
+        self.count += 1;
+        true
+    }
+
+    /// Writes what a close settles, in centavos, and answers whether the arrays have room for it: the
+    /// adjustments, wrapping in 64 bits, and the day-trade amounts. The row of account a starts at
+    /// a × k, k being how many months have prices.
+    pub fn write_amounts<'b>(
+        &mut self,
+        accounts: usize,
+        prices: &'b [MonthPrices],
+        positions: &'b [i32],
+        adjustments: &mut [i64],
+        day_trades: &mut [i64],
+    ) -> bool
+        ensures room { IsTrue result ↔ (HasRoom accounts (length prices.now) (length adjustments.old) × HasRoom accounts (length prices.now) (length day_trades.old)) }
+        ensures adjusted { adjustments.new ≡ (if result then written_to accounts (length prices.now) (λ a m. int_wrap w64 (adjustment_in self.old prices.now positions.now a m)) adjustments.old else adjustments.old) }
+        ensures exact { IsTrue result → FitsWithinLimit self.old prices.now positions.now }
+        ensures day_traded { day_trades.new ≡ (if result then written_to accounts (length prices.now) (λ a m. day_trade a m self.old) day_trades.old else day_trades.old) }
+        ensures placed { RowsStand }
+        ensures same_trades { self.new ≡ self.old }
+    {
+        let months = prices.len();
+        if !has_room(accounts, months, adjustments.len())
+            || !has_room(accounts, months, day_trades.len())
+        {
+            return false;
+        }
+        let trades = &self.trades[..self.count];
+        self.firsts.take_all(trades, &self.sums);
+        let adjusted = Adjustments {
+            trades,
+            sums: &self.sums,
+            prices,
+            positions,
+        };
+        write_rows(&adjusted, accounts, months, adjustments);
+        let day_traded = DayTrades {
+            trades,
+            firsts: &self.firsts,
+        };
+        write_rows(&day_traded, accounts, months, day_trades);
+        true
+    }
 }

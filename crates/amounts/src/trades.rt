@@ -1,33 +1,35 @@
-// The trades of a session, and the contracts of an account in them.
-ghost use Rattle.std.specs.Prelude.{◌≡◌, ◌≤◌, unsigned_abs};
-ghost use Rattle.amounts.specs.Trades.{party_of, lots_of, contracts_of};
+// The trades of a session, and the limits of what a book holds.
+ghost use Rattle.std.specs.Prelude.{◌≡◌, IsTrue, ◌↔◌};
+ghost use Rattle.amounts.specs.Trades.{party_of, FitsTables};
 
-// The most trades of a session.
+/// The most trades of a session.
 pub const MAX_TRADES: usize = 256;
 
-// The most contracts of a trade.
-pub const MOST_QUANTITY: u32 = 20_000;
+/// The most contracts of a trade.
+pub const MAX_CONTRACTS: u32 = 20_000;
 
-// A trade of a session, with sides in rate: accounts and month by index, the rate in thousandths of a
-// percent, the price in centavos.
+/// The most contracts of a position, bought or sold.
+pub const MAX_POSITION: u32 = 500_000;
+
+/// The most accounts of a book.
+pub const MAX_ACCOUNTS: usize = 32;
+
+/// The most months of a book.
+pub const MAX_MONTHS: usize = 16;
+
+/// A trade of a session, with sides in rate: accounts and month by index, the dealt rate in
+/// thousandths of a percent, the trade price in centavos.
 #[derive(Clone, Copy, PartialEq, Eq, Debug)]
 pub struct Trade {
     pub buyer: u8,
     pub seller: u8,
     pub month: u8,
     pub rate: u32,
-    pub quantity: u32,
+    pub contracts: u32,
     pub price: u32,
 }
 
-// An account in a month, both by index.
-#[derive(Clone, Copy, PartialEq, Eq, Debug)]
-pub struct AccountMonth {
-    pub account: u8,
-    pub month: u8,
-}
-
-// A side in price.
+/// A side in price.
 #[derive(Clone, Copy)]
 pub enum Side {
     Bought,
@@ -35,8 +37,8 @@ pub enum Side {
 }
 
 impl Trade {
-    // Who is on a side in price.
-    fn party(self, side: Side) -> u8
+    // Who is on a side in price: who sells in rate buys in price.
+    pub(crate) fn party(self, side: Side) -> u8
         ensures { result ≡ party_of side self }
     {
         match side {
@@ -45,23 +47,13 @@ impl Trade {
         }
     }
 
-    // The contracts that the account has on a side, if the trade is of the month.
-    pub(crate) fn lots(self, side: Side, whose: AccountMonth) -> u32
-        ensures value { result ≡ lots_of side whose.account whose.month self }
-        ensures most { result ≤ self.quantity }
+    // Whether the tables of a book have a place for it: its accounts, its month, its contracts.
+    pub(crate) fn fits_tables(self) -> bool
+        ensures { IsTrue result ↔ FitsTables self }
     {
-        if self.month == whose.month && self.party(side) == whose.account {
-            self.quantity
-        } else {
-            0
-        }
+        (self.buyer as usize) < MAX_ACCOUNTS
+            && (self.seller as usize) < MAX_ACCOUNTS
+            && (self.month as usize) < MAX_MONTHS
+            && self.contracts <= MAX_CONTRACTS
     }
-}
-
-// The contracts of the account in a trade of the month, in price: below 0 where it sold.
-pub fn contracts_of(trade: Trade, whose: AccountMonth) -> i64
-    ensures value { result ≡ contracts_of whose.account whose.month trade }
-    ensures most { unsigned_abs result ≤ trade.quantity }
-{
-    trade.lots(Side::Bought, whose) as i64 - trade.lots(Side::Sold, whose) as i64
 }

@@ -1,5 +1,5 @@
 -- The power grows with the factor, and from 10^9 on with the exponent.
-use Rattle.std.proofs.Common.{◌≡◌, ℕ, zero, suc, ◌+◌, ◌-◌, ◌*◌, ◌/◌, ◌≤◌, refl, le_trans, add-zero, add-suc, mul-le-mul, mul-le-mul_left, arith, lit≤}
+use Rattle.std.proofs.Common.{◌≡◌, ℕ, zero, suc, ◌+◌, ◌-◌, ◌*◌, ◌/◌, ◌≤◌, refl, le_trans, add-zero, add-suc, add-one, mul-le-mul, mul-le-mul_left, arith, lit≤, ◌^◌, ◌<◌}
 use Rattle.interest.specs.Power.{power_of}
 
 pub power_zero : (f : ℕ) → power_of f 0 ≡ 1000000000
@@ -9,6 +9,9 @@ power_zero f = refl
 pub power-suc : (f k : ℕ) → power_of f (suc k) ≡ power_of f k * f / 1000000000
 unfolding power_of
 power-suc f k = refl
+
+pub power-next : (f k : ℕ) → power_of f (k + 1) ≡ power_of f k * f / 1000000000
+power-next f k = rw add-one (power-suc f k)
 
 quotient-mono : (m n : ℕ) → m ≤ n → m / 1000000000 ≤ n / 1000000000
 quotient-mono m n h = omega arith

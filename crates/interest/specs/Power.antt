@@ -1,5 +1,6 @@
 -- Powers of a factor with nine decimals, where 10^9 means 1, and the root of 252.
 use Rattle.std.specs.Prelude.{ℕ, zero, suc, ◌+◌, ◌*◌, ◌/◌, ◌^◌, ◌≤◌, cond, nat_le}
+use Rattle.interest.specs.declared.powers.TheConstants.{MAX_FACTOR}
 
 -- from 10^9 on, so many times: times the factor, by 10^9, fraction dropped
 unfoldable pub power_of : ℕ → ℕ → ℕ
@@ -20,9 +21,13 @@ climb t (suc b) f = climb t b (cond (nat_le (power_of (f + 2 ^ b) 252) t) (f + 2
 unfoldable pub root_of : ℕ → ℕ
 root_of t = climb t 22 1000000000
 
+-- the factors that are raised
+abbrev pub FactorRange : ℕ → Type 0
+FactorRange f = (1000000000 ≤ f) × (f ≤ MAX_FACTOR)
+
 -- the factors and exponents of which a power is answered
 abbrev pub PowerRange : ℕ → ℕ → Type 0
-PowerRange f k = (1000000000 ≤ f) × (f ≤ 1004194304) × (k ≤ 252)
+PowerRange f k = (1000000000 ≤ f) × (f ≤ MAX_FACTOR) × (k ≤ 252)
 
 -- the targets of which a root is answered
 abbrev pub RootRange : ℕ → Type 0

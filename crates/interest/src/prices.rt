@@ -1,20 +1,20 @@
-// Day factors of DI rates, and prices of dealt rates.
-ghost use Rattle.std.specs.Prelude.{◌≡◌, ◌+◌, ◌/◌, ◌<◌, ◌≤◌, Some, MatchOption, MatchResult};
+// Prices of dealt rates.
+ghost use Rattle.std.specs.Prelude.{◌≡◌, ◌+◌, ◌/◌, ◌<◌, ◌≤◌, Some, MatchResult};
 ghost use Rattle.interest.specs.Figures.{FiguresHold};
-ghost use Rattle.interest.specs.Price.{DayFactor, TradePrice, after_years};
+ghost use Rattle.interest.specs.Price.{TradePrice, after_years};
 ghost use Rattle.interest.specs.Refusal.{Refused, message};
 
-use crate::powers::{ONE, Target, YEAR, raised};
+use crate::powers::{ONE, YEAR};
+use crate::reciprocals::Divisor;
+use crate::roots::Target;
 use std::fmt;
 
-// The greatest DI rate, in millionths of a percent.
-pub const MAX_DI_RATE: u32 = 99_999_999;
-// The greatest dealt rate, in thousandths of a percent.
+/// The greatest dealt rate, in thousandths of a percent.
 pub const MAX_DEALT_RATE: u32 = 99_999;
-// The most reserve days to an expiry.
+/// The most reserve days to an expiry.
 pub const MAX_RESERVE_DAYS: u32 = 2_520;
 
-// Why a dealt rate has no price.
+/// Why a dealt rate has no price.
 #[derive(Clone, Copy, PartialEq, Eq, Debug)]
 pub enum Unpriceable {
     RateTooHigh,
@@ -35,29 +35,8 @@ impl fmt::Display for Unpriceable {
 
 impl std::error::Error for Unpriceable {}
 
-// A factor of nine decimals, rounded to eight.
-// Kept: one rounding over a const parameter was tried; this and to_centavos are still needed above it, for their bounds.
-fn to_eight_decimals(factor: u64) -> u32
-    requires { factor ≤ 2000000000 }
-    ensures { result ≡ (factor + 5) / 10 }
-{
-    ((factor + 5) / 10) as u32
-}
-
-// The day factor of a DI rate, in units of 10^-8, or nothing for a rate of 100 % and over.
-pub fn day_factor(rate: u32) -> Option<u32>
-    ensures { MatchOption result (99999999 < rate) (λ g. DayFactor rate g) }
-{
-    if rate > MAX_DI_RATE {
-        return None;
-    }
-    let target = Target {
-        value: ONE + 10 * rate as u64,
-    };
-    Some(to_eight_decimals(target.root()))
-}
-
 // A worth in units of 10^-9 of a point, rounded to hundredths of a point.
+// Kept: one rounding over a const parameter was tried; this and to_eight_decimals are still needed above it, for their bounds.
 fn to_centavos(worth: u64) -> u32
     requires { worth ≤ 100000000000000 }
     ensures { result ≡ (worth + 5000000) / 10000000 }
@@ -67,17 +46,17 @@ fn to_centavos(worth: u64) -> u32
 
 // A dealt rate and the reserve days to the expiry, within the limits.
 #[derive(Clone, Copy)]
-struct Dealt {
+struct Quote {
     rate: u32,
     days: u32,
     ghost rate_limit: { rate ≤ 99999 },
     ghost day_limit: { days ≤ 2520 },
 }
 
-impl Dealt {
+impl Quote {
     // The rate is looked at first, then the days.
-    fn new(rate: u32, days: u32) -> Result<Dealt, Unpriceable>
-        ensures { MatchResult result (λ d. (d.rate ≡ rate) × (d.days ≡ days)) (λ e. Refused rate days e) }
+    fn new(rate: u32, days: u32) -> Result<Quote, Unpriceable>
+        ensures { MatchResult result (λ q. (q.rate ≡ rate) × (q.days ≡ days)) (λ e. Refused rate days e) }
     {
         if rate > MAX_DEALT_RATE {
             return Err(Unpriceable::RateTooHigh);
@@ -85,18 +64,19 @@ impl Dealt {
         if days > MAX_RESERVE_DAYS {
             return Err(Unpriceable::TooFar);
         }
-        Ok(Dealt { rate, days })
+        Ok(Quote { rate, days })
     }
 
-    // What is left of a worth after whole years of discount.
-    fn discounted(self, worth: u64) -> u64
+    // What is left of a worth after the whole years of discount.
+    fn discount(self, worth: u64) -> u64
         requires { worth ≤ 100000000000000 }
         ensures value { result ≡ after_years self.rate (self.days / 252) worth }
         ensures most { result ≤ 100000000000000 }
     {
+        let year = Divisor::new(100_000 + self.rate as u64);
         let mut left = worth;
-        for year in 0..self.days / YEAR {
-            left = left * 100_000 / (100_000 + self.rate as u64);
+        for done in 0..self.days / YEAR {
+            left = year.divide(left * 100_000);
         }
         left
     }
@@ -108,22 +88,23 @@ impl Dealt {
         let target = Target {
             value: ONE + 10_000 * self.rate as u64,
         };
-        let factor = target.root();
-        let part = 10_000_000_000_000_000_000 / raised(factor, self.days % YEAR) * 10_000;
-        to_centavos(self.discounted(part))
+        let root = target.root(self.days % YEAR);
+        let worth = 10_000_000_000_000_000_000 / root.power * 10_000;
+        to_centavos(self.discount(worth))
     }
 }
 
-// The price in hundredths of a point of a dealt rate over the reserve days to the expiry.
+/// The price in hundredths of a point of a dealt rate in thousandths of a percent, over the reserve
+/// days from the session, included, to the expiry, excluded.
 #[tactic(auto, using(crate::proofs::Marked::figures))]
 pub fn trade_price(rate: u32, days: u32) -> Result<u32, Unpriceable>
     ensures price { MatchResult result (λ p. TradePrice rate days p) (λ e. Refused rate days e) }
     ensures figures { FiguresHold }
 {
-    Ok(Dealt::new(rate, days)?.price())
+    Ok(Quote::new(rate, days)?.price())
 }
 
-// The marked figures are what the definitions give.
+/// The figures in the tables of docs/RULES.md are what the definitions give.
 #[tactic(auto, using(crate::proofs::Marked::figures))]
 pub fn figures_hold()
     ensures { FiguresHold }

@@ -1,18 +1,21 @@
 -- What the rules have seen where they accept an event.
 use Rattle.std.proofs.Common.{◌≡◌, ℕ, ◌<◌, ◌≤◌, Bool, true, false, cond, not, leb, List, [], ◌∷◌, length, pos, ◌+ℤ◌, ◌-ℤ◌, nat_abs, is_some as option_is_some, Some, None, Option, unwrap_or, refl, ap, arith}
-use Rattle.std.proofs.lemmas.Bool.{true≢false, leb-false, eqb-false, or_parts}
+use Rattle.std.proofs.lemmas.Bool.{true≢false, leb-false, ltb-false, eqb-false, or_parts}
 use Rattle.std.proofs.lemmas.Bool.Decides.{nat_tests}
 use Rattle.calendar.specs.Spans.{expiry_of}
 use Rattle.correction.specs.Gaps.{first_unrated}
-use Rattle.refusal.specs.Refusals.{Row, first_row}
+use Rattle.rows.specs.Rows.{Row, first_row}
 use Rattle.amounts.specs.declared.trades.Trade.{Trade}
-use Rattle.model.specs.declared.accounts.Account.{Account}
+use Rattle.model.specs.declared.calls.Account.{Account}
 use Rattle.model.specs.World.{World}
-use Rattle.model.specs.History.{History, Amounts, Entered, Listed, Published, Arbitrated, Opened, Traded, Marked, Paid, written, newest}
-use Rattle.model.specs.Observed.{accounts_of, months_of, expiry_at, rate_on, latest_opened, session_day, since_opened, open_session, trades_of}
+use Rattle.rates.specs.declared.entry.DayRate.{DayRate}
+use Rattle.rates.specs.Publishing.{DayFree}
+use Rattle.model.specs.History.{History, Amounts, Entered, Listed, Published, Arbitrated, Opened, Traded, Marked, Paid, amounts_written, newest}
+use Rattle.model.specs.Observed.{accounts_of, months_of, expiry_at, source_of, rate_on, order_of, latest_opened, session_day, since_opened, open_session, trades_of}
 use Rattle.model.specs.Sessions.{sessions_of, unpaid_day, gap_to}
 use Rattle.model.specs.Positions.{position_of}
-use Rattle.model.specs.Rows.{SessionReference, is_of, lacks_expiry, enter_rows, list_rows, publish_rows, arbitrate_rows, open_rows, trade_rows, mark_rows, close_rows, pay_rows}
+use Rattle.model.specs.References.{SessionReference, is_of}
+use Rattle.model.specs.Rows.{lacks_expiry, enter_rows, list_rows, publish_rows, arbitrate_rows, open_rows, trade_rows, mark_rows, close_rows, pay_rows}
 use Rattle.model.specs.Lawful.{Allowed, Accepts, Closes}
 
 first-none : {X : Type 0} (b : Bool) (x : X) (o : Option X) → cond b (Some x) o ≡ None → (b ≡ false) × (o ≡ None)
@@ -40,19 +43,19 @@ pub record OpenOn (h : History) (d : ℕ) : Type 0 where
   pub day : session_day h ≡ d
 
 pub open-on : (h : History) (d : ℕ) → open_session h ≡ Some d → OpenOn h d
-open-on h d e = by (newest written (since_opened h)) refl e
+open-on h d e = by (newest amounts_written (since_opened h)) refl e
   where
-    by : (o : Option Amounts) → newest written (since_opened h) ≡ o → cond (option_is_some o) None (latest_opened h) ≡ Some d → OpenOn h d
+    by : (o : Option Amounts) → newest amounts_written (since_opened h) ≡ o → cond (option_is_some o) None (latest_opened h) ≡ Some d → OpenOn h d
     by None f l = record { is_open = e; latest = l; day = ap (λ o. unwrap_or o 0) l }
     by (Some c) f l = absurd cc
 
--- a paper that is current: there is such a day
-paper-some : (w : World) (p : SessionReference) (o : Option ℕ) → not (is_of w p o) ≡ false → (d : ℕ) × (o ≡ Some d)
-paper-some w p None h = absurd (true≢false h)
-paper-some w p (Some d) h = (d, refl)
+-- a reference that is to the session of a day: there is such a day
+day-there : (number : ℕ) (p : SessionReference) (o : Option ℕ) → not (is_of number p o) ≡ false → (d : ℕ) × (o ≡ Some d)
+day-there number p None h = absurd (true≢false h)
+day-there number p (Some d) h = (d, refl)
 
 pub record Listing (w : World) (h : History) (n expiry : ℕ) : Type 0 where
-  pub is : expiry_of w.kinds n ≡ Some expiry
+  pub first : expiry_of w.kinds n ≡ Some expiry
   pub after-start : w.start < expiry
   pub after-latest : session_day h < expiry
 
@@ -65,16 +68,26 @@ listing w h n l =
     by None e p = absurd (true≢false p)
     by (Some x) e p =
         let q = or_parts (leb x w.start) (leb x (session_day h)) p in
-        (x, record { is = e; after-start = leb-false x w.start q.0; after-latest = leb-false x (session_day h) q.1 })
+        (x, record { first = e; after-start = leb-false x w.start q.0; after-latest = leb-false x (session_day h) q.1 })
 
 pub entering : (w : World) (h : History) (x : Account) → Accepts w h (Entered x) → length (accounts_of h) < 32
 entering w h x l = leb-false 32 (length (accounts_of h)) (none-hold (enter_rows h x) l).0
 
-pub publishing : (w : World) (h : History) (d r : ℕ) → Accepts w h (Published d r) → rate_on w h d ≡ None
-publishing w h d r l = is_none (rate_on w h d) (none-hold (publish_rows w h d r 1) l).1.0
+-- the day is inside the horizon and has no rate, and the rate is not too high
+pub record Rating (w : World) (h : History) (entry : DayRate) : Type 0 where
+  pub unrated : rate_on w h entry.day ≡ None
+  pub low : entry.rate ≤ 99999999
+  pub free : DayFree (source_of w h) entry.day
 
-pub arbitrating : (w : World) (h : History) (d r : ℕ) → Accepts w h (Arbitrated d r) → rate_on w h d ≡ None
-arbitrating w h d r l = is_none (rate_on w h d) (none-hold (arbitrate_rows w h d r) l).1.0
+pub publishing : (w : World) (h : History) (entry : DayRate) → Accepts w h (Published entry) → Rating w h entry
+publishing w h entry l =
+    let r = none-hold (publish_rows w h entry 1) l in
+    record { unrated = is_none (rate_on w h entry.day) r.1.0; low = ltb-false 99999999 entry.rate r.1.1.0; free = rw (r.0, r.1.0) refl }
+
+pub arbitrating : (w : World) (h : History) (entry : DayRate) → Accepts w h (Arbitrated entry) → Rating w h entry
+arbitrating w h entry l =
+    let r = none-hold (arbitrate_rows w h entry) l in
+    record { unrated = is_none (rate_on w h entry.day) r.1.0; low = ltb-false 99999999 entry.rate r.1.1.0; free = rw (r.0, r.1.0) refl }
 
 pub opening : (w : World) (h : History) (d : ℕ) → Accepts w h (Opened d) → open_session h ≡ None
 opening w h d l = is_none (open_session h) (none-hold (open_rows w h) l.0).0
@@ -87,15 +100,15 @@ pub record Trading (w : World) (h : History) (t : Trade) : Type 0 where
   pub month : t.month < length (months_of h)
   pub before-expiry : day < expiry_at w h t.month
   pub apart : t.buyer ≡ t.seller → ⊥
-  pub small : t.quantity ≤ 20000
-  pub buyer-limit : nat_abs (position_of w h t.buyer t.month -ℤ pos t.quantity) ≤ 500000
-  pub seller-limit : nat_abs (position_of w h t.seller t.month +ℤ pos t.quantity) ≤ 500000
+  pub small : t.contracts ≤ 20000
+  pub buyer-limit : nat_abs (position_of w h t.buyer t.month -ℤ pos t.contracts) ≤ 500000
+  pub seller-limit : nat_abs (position_of w h t.seller t.month +ℤ pos t.contracts) ≤ 500000
   pub few : length (trades_of h) < 256
 
 pub trading : (w : World) (h : History) (t : Trade) → Accepts w h (Traded t) → Trading w h t
 trading w h t l =
-    let r = none-hold (trade_rows w h l.0.0 t) l.0.1 in
-    let s = paper-some w l.0.0 (open_session h) r.0 in
+    let r = none-hold (trade_rows w h l.0.0 (order_of t)) l.0.1 in
+    let s = day-there w.number l.0.0 (open_session h) r.0 in
     let o = open-on h s.0 s.1 in
     record {
       day = s.0;
@@ -125,7 +138,7 @@ pub record Closing (w : World) (h : History) : Type 0 where
 pub closing : (w : World) (h : History) (c : Amounts) → Closes w h c → Closing w h
 closing w h c l =
     let r = none-hold (close_rows w h l.ticket l.room l.day_room) l.allowed in
-    let s = paper-some w l.ticket (open_session h) r.0 in
+    let s = day-there w.number l.ticket (open_session h) r.0 in
     record {
       day = s.0;
       session = open-on h s.0 s.1;
@@ -134,4 +147,4 @@ closing w h c l =
     }
 
 pub paying : (w : World) (h : History) → Accepts w h Paid → (d : ℕ) × (unpaid_day w h ≡ Some d)
-paying w h l = paper-some w l.0 (unpaid_day w h) (none-hold (pay_rows w h l.0) l.1).0
+paying w h l = day-there w.number l.0 (unpaid_day w h) (none-hold (pay_rows w h l.0) l.1).0

@@ -6,7 +6,7 @@ use Rattle.dates.proofs.MonthLaws.{first-day-grows, first-day-bound, month-holds
 use Rattle.model.specs.Laws.{MonthsApart, TradesApart}
 use Rattle.model.specs.Observed.{month_at}
 use Rattle.model.proofs.Allowing.{open-on, trading}
-use Rattle.model.proofs.Order.{in_order}
+use Rattle.model.proofs.SessionOrder.{in_order}
 use Rattle.model.proofs.Expiring.{expiry-is}
 
 -- a day before a month is in an earlier month

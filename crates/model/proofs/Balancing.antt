@@ -3,7 +3,7 @@ use Rattle.std.proofs.Common.{◌≡◌, ℕ, ◌<◌, Bool, true, false, cond, 
 use mathlib.Core.Path.{fun_ext}
 use lib.IntN.{zero-*ℤ}
 use Rattle.std.specs.List.{AllByRecursion}
-use Rattle.std.proofs.ByRecursion.{All-append, All-weaker}
+use Rattle.std.proofs.ByRecursion.{All-push, All-weaker}
 use Rattle.std.proofs.lemmas.Bool.{true≢false, eqb-true, agree_below, agree_below_at}
 use Rattle.amounts.specs.declared.trades.Trade.{Trade}
 use Rattle.amounts.proofs.Accounts.{Once, Among}
@@ -14,7 +14,7 @@ use Rattle.amounts.proofs.Laws.{contracts-opposite, trades-opposite}
 use Rattle.amounts.proofs.Totals.{total-append, total-sum, total-times, total-zero}
 use Rattle.model.specs.Accounts.{account_indices}
 use Rattle.model.specs.World.{World}
-use Rattle.model.specs.History.{History, Event, Amounts, Closed, traded, written, is_payment, list_of, gather, since, before}
+use Rattle.model.specs.History.{History, Event, Amounts, Closed, trade_made, amounts_written, is_payment, gather, since, before}
 use Rattle.model.specs.Observed.{rate_on, session_day, trades_of, settlement_price}
 use Rattle.model.specs.Sessions.{Session, sessions_of}
 use Rattle.model.specs.Positions.{has_ended, contracts_in, carried_of, corrected_to, adjustment_at, written_for, due_of, paid_of}
@@ -56,8 +56,8 @@ cond-opposite false f accounts z = z
 
 pub positions-balance : PositionsBalance
 positions-balance w h m l =
-    cond-opposite (has_ended w h m) (λ a. position_change a m (gather traded h)) account_indices
-    (changes-opposite m account_indices (gather traded h) (among w h l (gather traded h) (trades-fit w h l)))
+    cond-opposite (has_ended w h m) (λ a. position_change a m (gather trade_made h)) account_indices
+    (changes-opposite m account_indices (gather trade_made h) (among w h l (gather trade_made h) (trades-fit w h l)))
 
 -- so do the positions that the session began with, and the adjustments of its close
 pub carried-balance : (w : World) (h : History) (m : ℕ) → Lawful w h → total (λ a. carried_of w h a m) account_indices ≡ pos 0
@@ -86,25 +86,23 @@ adjustments-balance w h m l =
 abbrev Even : Amounts → Type 0
 Even c = (m : ℕ) → total (λ a. c.adjustments a m) account_indices ≡ pos 0
 
-new-even : (w : World) (h : History) (e : Event) → Lawful w (e ∷ h) → AllByRecursion Even (list_of (written e))
-new-even w h (Closed c) l =
-    (λ m. ap (λ f. total f account_indices) (fun_ext (λ a. cells w h c l a m)) ∙ adjustments-balance w h m l.1, tt)
-new-even w h e l = tt
-
-all-even : (w : World) (h : History) → Lawful w h → AllByRecursion Even (gather written h)
+all-even : (w : World) (h : History) → Lawful w h → AllByRecursion Even (gather amounts_written h)
 all-even w [] l = tt
-all-even w (e ∷ h) l = All-append Even (gather written h) (list_of (written e)) (all-even w h l.1) (new-even w h e l)
+all-even w (Closed c ∷ h) l =
+    All-push Even (gather amounts_written h) c (all-even w h l.1)
+    (λ m. ap (λ f. total f account_indices) (fun_ext (λ a. cells w h c l a m)) ∙ adjustments-balance w h m l.1)
+all-even w (e ∷ h) l = all-even w h l.1
 
 -- a payment writes nothing
-payment-silent : (e : Event) → is_payment e ≡ true → written e ≡ None
+payment-silent : (e : Event) → is_payment e ≡ true → amounts_written e ≡ None
 payment-silent (Closed c) k = absurd (true≢false (sym k))
 payment-silent e k = refl
 
 -- paid and due are all that was written
-pub all-written : (h : History) (a : ℕ) → paid_of h a +ℤ due_of h a ≡ total (written_for a) (gather written h)
+pub all-written : (h : History) (a : ℕ) → paid_of h a +ℤ due_of h a ≡ total (written_for a) (gather amounts_written h)
 all-written h a =
-    sym (total-append (written_for a) (gather written (before is_payment h)) (gather written (since is_payment h)))
-    ∙ ap (total (written_for a)) (sym (gather-split written is_payment payment-silent h))
+    sym (total-append (written_for a) (gather amounts_written (before is_payment h)) (gather amounts_written (since is_payment h)))
+    ∙ ap (total (written_for a)) (sym (gather-split amounts_written is_payment payment-silent h))
 
 pub always-balanced : AlwaysBalanced
 always-balanced w h l = record { closes = all-even w h l; accounts = all-written h }

@@ -3,40 +3,40 @@ use Rattle.std.proofs.Common.{◌≡◌, ℕ, ◌+◌, ◌<◌, ◌≤◌, true,
 use Rattle.std.specs.List.{AllByRecursion}
 use Rattle.std.proofs.ByRecursion.{All-push, All-weaker}
 use Rattle.std.proofs.lemmas.Bool.{true≢false, cases_lt}
-use Rattle.std.proofs.lemmas.List.{append-nil, length_push}
+use Rattle.std.proofs.lemmas.List.{length_push}
 use Rattle.calendar.specs.declared.kind.DayKind.TheVariants.{ClosedDay as closed_day}
 use Rattle.calendar.specs.Kinds.{is_session}
 use Rattle.calendar.proofs.Spans.{past-last}
 use Rattle.model.specs.World.{World}
-use Rattle.model.specs.History.{History, Opened, Closed, written, gather}
+use Rattle.model.specs.History.{History, Opened, Closed, amounts_written, gather}
 use Rattle.model.specs.Lawful.{Lawful}
 use Rattle.model.specs.Limits.{OpenedSessions, ClosedDays, ClosesFew}
 use Rattle.model.specs.Observed.{opened_days, latest_opened, session_day, next_from}
 use Rattle.model.specs.Sessions.{Session, sessions_of}
 use Rattle.model.proofs.Falling.{Falling}
-use Rattle.model.proofs.Order.{falling, in_order, next-first, open-later}
+use Rattle.model.proofs.SessionOrder.{falling, in_order, next-first, open-later}
 use Rattle.model.proofs.Reliance.{closed-latest}
 
 pub opened-sessions : OpenedSessions
 opened-sessions w [] l = tt
 opened-sessions w (Opened d ∷ h) l = All-push (λ x. is_session (w.kinds x) ≡ true) (opened_days h) d (opened-sessions w h l.1) (next-first w h d l).2
-opened-sessions w (e ∷ h) l = rw (append-nil (opened_days h)) (opened-sessions w h l.1)
+opened-sessions w (e ∷ h) l = opened-sessions w h l.1
 
 pub closed-days : ClosedDays
 closed-days w h l = (λ o. sym (closed-latest w h l o), λ d o. open-later w h d l o)
 
 -- a closed session for each close
-pub closes-sessions : (w : World) (h : History) → length (gather written h) ≡ length (sessions_of w h)
+pub closes-sessions : (w : World) (h : History) → length (gather amounts_written h) ≡ length (sessions_of w h)
 closes-sessions w [] = refl
-closes-sessions w (Closed c ∷ h) = let k = closes-sessions w h in omega (arith, length_push (gather written h) c)
-closes-sessions w (e ∷ h) = rw (append-nil (gather written h)) (closes-sessions w h)
+closes-sessions w (Closed c ∷ h) = let k = closes-sessions w h in omega (arith, length_push (gather amounts_written h) c)
+closes-sessions w (e ∷ h) = closes-sessions w h
 
 -- none is after the latest session
 closed-by : (w : World) (h : History) → Lawful w h → AllByRecursion (λ s. s.day < session_day h + 1) (sessions_of w h)
 closed-by w [] l = tt
 closed-by w (Opened d ∷ h) l =
     let f = (next-first w h d l).0 in
-    All-weaker (λ s. s.day < next_from w (latest_opened h)) (λ s. s.day < d + 1) (λ s b. omega arith) (sessions_of w h) (in_order w h l.1).closed-below
+    All-weaker (λ s. s.day < next_from w.start (latest_opened h)) (λ s. s.day < d + 1) (λ s b. omega arith) (sessions_of w h) (in_order w h l.1).closed-below
 closed-by w (Closed c ∷ h) l = (omega arith, closed-by w h l.1)
 closed-by w (e ∷ h) l = closed-by w h l.1
 

@@ -2,7 +2,6 @@
 use Rattle.std.proofs.Common.{ℕ, List, [], ◌∷◌}
 use Rattle.std.specs.List.{AllByRecursion}
 use Rattle.std.proofs.ByRecursion.{All-push, All-weaker}
-use Rattle.std.proofs.lemmas.List.{append-nil}
 use Rattle.amounts.specs.declared.trades.Trade.{Trade}
 use Rattle.model.specs.History.{History, Event, Opened, Traded, Closed}
 use Rattle.model.specs.Lawful.{Lawful}
@@ -24,7 +23,7 @@ module _ (w : World) (P : History → ℕ → Trade → Type 0)
   of-latest (Traded t ∷ h) l =
       All-push (P (Traded t ∷ h) (session_day h)) (trades_of h) t
       (all_stay h (Traded t) (session_day h) (trades_of h) (of-latest h l.1)) (stays h (Traded t) (session_day h) t (new h t l))
-  of-latest (e ∷ h) l = rw (append-nil (trades_of h)) (all_stay h e (session_day h) (trades_of h) (of-latest h l.1))
+  of-latest (e ∷ h) l = all_stay h e (session_day h) (trades_of h) (of-latest h l.1)
 
   sessions-stay : (h : History) (e : Event) (ss : List Session) → AllByRecursion (λ s. AllByRecursion (P h s.day) s.trades) ss
       → AllByRecursion (λ s. AllByRecursion (P (e ∷ h) s.day) s.trades) ss

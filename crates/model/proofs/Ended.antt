@@ -2,7 +2,7 @@
 use Rattle.std.proofs.Common.{◌≡◌, ℕ, ◌<◌, ◌≤◌, true, ◌⊎◌, List, [], ◌∷◌, ◌++◌, length, get_or, pos, Some, ap, ◌∙◌, inl, inr, arith}
 use Rattle.std.specs.List.{AllByRecursion}
 use Rattle.std.proofs.ByRecursion.{All-weaker}
-use Rattle.std.proofs.lemmas.List.{append-nil, length_push, get_or_push, get_or_append_left}
+use Rattle.std.proofs.lemmas.List.{length_push, get_or_push, get_or_append_left}
 use Rattle.std.proofs.lemmas.Bool.{cases_lt, lt-ltb, ne_eqb, and_from}
 use Rattle.pricing.specs.Pricing.{expiry_day}
 use Rattle.amounts.specs.declared.trades.Trade.{Trade}
@@ -10,14 +10,14 @@ use Rattle.amounts.specs.Trades.{contracts_of}
 use Rattle.model.specs.History.{History, Event, Amounts, Listed, Traded, Closed}
 use Rattle.model.specs.Lawful.{Lawful}
 use Rattle.model.specs.Moves.{InTime, TradesInTime}
-use Rattle.model.specs.Observed.{accounts_of, months_of, is_listed, expiry_at, rate_on, opened_days, latest_opened, open_session, next_from, session_day, trades_of, settlement_price}
+use Rattle.model.specs.Observed.{months_of, is_listed, expiry_at, rate_on, opened_days, latest_opened, open_session, next_from, session_day, trades_of, settlement_price}
 use Rattle.model.specs.Positions.{has_ended, corrected_to, adjustment_at}
 use Rattle.model.specs.Sessions.{Session, sessions_of, has_reached}
 use Rattle.model.specs.World.{World}
 use Rattle.model.proofs.Allowing.{open-on, trading, closing}
-use Rattle.model.proofs.Cells.{gain-none, trades-none}
+use Rattle.model.proofs.Cells.{gain-none, trades-none, cells}
 use Rattle.model.proofs.EachTrade.{of-trades}
-use Rattle.model.proofs.Order.{all_among, in_order}
+use Rattle.model.proofs.SessionOrder.{all_among, in_order}
 use Rattle.model.proofs.Expiring.{listed-stays, months-stay, listed-later, expiry-opened}
 
 pub in-time-stays : (w : World) (h : History) (e : Event) (day : ℕ) (t : Trade) → InTime w h day t → InTime w (e ∷ h) day t
@@ -43,7 +43,7 @@ other-months w h a m l b =
 pub expired-before : (w : World) (h : History) (m d : ℕ) → Lawful w h → open_session h ≡ Some d → m < length (months_of h) → expiry_at w h m < d
     → has_ended w h m ≡ true
 expired-before w h m d l o i b =
-    let n : expiry_at w h m < next_from w (latest_opened h) = rw (open-on h d o).latest (omega arith) in
+    let n : expiry_at w h m < next_from w.start (latest_opened h) = rw (open-on h d o).latest (omega arith) in
     let r = all_among (λ x. (has_reached x (sessions_of w h) ≡ true) ⊎ (open_session h ≡ Some x)) (expiry_at w h m) (opened_days h)
     (in_order w h l).reached (expiry-opened w h m l i n) in
     and_from (is_listed h m) (has_reached (expiry_at w h m) (sessions_of w h)) (lt-ltb m (length (months_of h)) i)
@@ -55,10 +55,7 @@ after : (w : World) (h : History) (c : Amounts) → Lawful w (Closed c ∷ h) �
 after w h c l a m i b =
     let s = closing w h c l.0 in
     let x = expired-before w h m s.day l.1 s.session.is_open i (omega (arith, s.session.day)) in
-    elim (cases_lt a (length (accounts_of h))) [
-      | inl j ↦ l.0.settles.adjustments a m (j, i) ∙ nothing x
-      | inr j ↦ l.0.settles.no_adjustments a m (λ k. omega (arith, k.0))
-    ]
+    cells w h c l a m ∙ nothing x
   where
     nothing : has_ended w h m ≡ true → adjustment_at w h a m ≡ pos 0
     nothing x =
@@ -68,9 +65,6 @@ after w h c l a m i b =
 abbrev Ended : World → List ℕ → List Session → Type 0
 Ended w ms ss = (a m : ℕ) → m < length ms → AllByRecursion (λ s. expiry_day w.kinds (get_or ms m 0) < s.day → s.amounts.adjustments a m ≡ pos 0) ss
 
-still : (w : World) (ms : List ℕ) (ss : List Session) → Ended w ms ss → Ended w (ms ++ []) ss
-still w ms ss e = rw (append-nil ms) e
-
 -- the sessions before a month was listed are before its expiry
 lists : (w : World) (h : History) (n : ℕ) → Lawful w (Listed n ∷ h) → Ended w (months_of h) (sessions_of w h) → Ended w (months_of h ++ n ∷ []) (sessions_of w h)
 lists w h n l e a m i =
@@ -79,7 +73,7 @@ lists w h n l e a m i =
       | inr j ↦
           let q : length (months_of h) ≡ m = omega (arith, length_push (months_of h) n) in
           rw (get_or_push (months_of h) n 0 m q)
-          (All-weaker (λ s. s.day < next_from w (latest_opened h)) (λ s. expiry_day w.kinds n < s.day → s.amounts.adjustments a m ≡ pos 0)
+          (All-weaker (λ s. s.day < next_from w.start (latest_opened h)) (λ s. expiry_day w.kinds n < s.day → s.amounts.adjustments a m ≡ pos 0)
           (λ s x y. absurd (omega (arith, (listed-later w h n l).1))) (sessions_of w h) (in_order w h l.1).closed-below)
     ]
 
@@ -88,5 +82,5 @@ pub ended : (w : World) (h : History) → Lawful w h → (a m : ℕ) → m < len
     → AllByRecursion (λ s. expiry_at w h m < s.day → s.amounts.adjustments a m ≡ pos 0) (sessions_of w h)
 ended w [] l = λ a m i. tt
 ended w (Listed n ∷ h) l = lists w h n l (ended w h l.1)
-ended w (Closed c ∷ h) l = still w (months_of h) (sessions_of w (Closed c ∷ h)) (λ a m i. (after w h c l a m i, ended w h l.1 a m i))
-ended w (e ∷ h) l = still w (months_of h) (sessions_of w h) (ended w h l.1)
+ended w (Closed c ∷ h) l = λ a m i. (after w h c l a m i, ended w h l.1 a m i)
+ended w (e ∷ h) l = ended w h l.1

@@ -10,7 +10,7 @@ use Rattle.model.specs.Observed.{expiry_at, rate_on}
 use Rattle.model.specs.Sessions.{Session, sessions_of, oldest_day, newest_day}
 use Rattle.model.specs.Laws.{GapsRated}
 use Rattle.model.proofs.Falling.{Falling}
-use Rattle.model.proofs.Order.{falling}
+use Rattle.model.proofs.SessionOrder.{falling}
 use Rattle.model.proofs.Telescope.{oldest-first}
 use Rattle.model.proofs.Valuing.{AllRightly, all_right}
 

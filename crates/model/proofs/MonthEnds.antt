@@ -2,7 +2,6 @@
 use Rattle.std.proofs.Common.{◌≡◌, ℕ, ◌<◌, ltb, leb, List, [], ◌∷◌, map, length, Some, None, unwrap_or, sym, refl, ap, ◌∙◌, inl, inr, arith}
 use Rattle.std.specs.List.{AllByRecursion}
 use Rattle.std.proofs.ByRecursion.{All-get_or, All-push}
-use Rattle.std.proofs.lemmas.List.{append-nil}
 use Rattle.std.proofs.lemmas.Bool.{cases_lt, lt-ltb, le-ltb, lt-leb}
 use Rattle.calendar.specs.Spans.{first_in}
 use Rattle.pricing.specs.Pricing.{expiry_day}
@@ -16,7 +15,7 @@ use Rattle.model.specs.World.{World}
 use Rattle.model.proofs.Allowing.{listing}
 use Rattle.model.proofs.Ended.{expired-before}
 use Rattle.model.proofs.Falling.{unreached}
-use Rattle.model.proofs.Order.{open-later}
+use Rattle.model.proofs.SessionOrder.{open-later}
 use Rattle.model.proofs.Reliance.{closed-latest}
 
 -- the listed months expire after the start day
@@ -24,8 +23,8 @@ after-start : (w : World) (h : History) → Lawful w h → AllByRecursion (λ n.
 after-start w [] l = tt
 after-start w (Listed n ∷ h) l =
     let x = listing w h n l.0 in
-    All-push (λ n. w.start < expiry_day w.kinds n) (months_of h) n (after-start w h l.1) (let e = ap (λ o. unwrap_or o 0) x.1.is in omega (arith, e, x.1.after-start))
-after-start w (e ∷ h) l = rw (append-nil (months_of h)) (after-start w h l.1)
+    All-push (λ n. w.start < expiry_day w.kinds n) (months_of h) n (after-start w h l.1) (let e = ap (λ o. unwrap_or o 0) x.1.first in omega (arith, e, x.1.after-start))
+after-start w (e ∷ h) l = after-start w h l.1
 
 pub expires-later : (w : World) (h : History) (m : ℕ) → Lawful w h → m < length (months_of h) → w.start < expiry_at w h m
 expires-later w h m l i = All-get_or (λ n. w.start < expiry_day w.kinds n) (months_of h) m 0 i (after-start w h l)

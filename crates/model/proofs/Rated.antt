@@ -1,31 +1,31 @@
 -- A rate once known stays.
-use Rattle.std.proofs.Common.{◌≡◌, ℕ, Bool, true, false, cond, not, eqb, List, [], ◌∷◌, ◌++◌, is_some, Some, None, filter, Option, sym, refl, ap, ◌∙◌}
-use Rattle.std.proofs.lemmas.Bool.{eqb-true}
-use Rattle.std.proofs.lemmas.Option.{none-some}
+use Rattle.std.proofs.Common.{◌≡◌, ℕ, cond, not, List, [], ◌∷◌, ◌++◌, is_some, Some, None, filter, Option, refl}
 use Rattle.calendar.specs.Spans.{first_in}
 use Rattle.correction.specs.Gaps.{factors, is_unrated, first_unrated}
-use Rattle.rates.specs.Layers.{or_else}
-use Rattle.model.specs.History.{History, Event, Published, Arbitrated, rated, newest}
+use Rattle.rates.specs.Meanings.{rates_of}
+use Rattle.rates.proofs.Laws.{sets-keeps}
+use Rattle.rates.proofs.Layering.{published_sets, arbitrated_sets}
+use Rattle.model.specs.History.{History, Event, Published, Arbitrated}
 use Rattle.model.specs.Lawful.{Lawful}
 use Rattle.model.specs.Laws.{RatesStay}
-use Rattle.model.specs.Observed.{rate_on}
+use Rattle.model.specs.Observed.{source_of, rate_on}
 use Rattle.model.specs.World.{World}
 use Rattle.model.proofs.Allowing.{publishing, arbitrating}
 
--- a day that had no rate is given one: any other keeps its own
-given : (w : World) (h : History) (x y d r : ℕ) → rate_on w h x ≡ None → rate_on w h d ≡ Some r
-    → or_else (or_else (cond (eqb d x) (Some y) None) (newest (rated d) h)) (w.rates d) ≡ Some r
-given w h x y d r none known = by (eqb d x) refl
-  where
-    by : (b : Bool) → eqb d x ≡ b → or_else (or_else (cond b (Some y) None) (newest (rated d) h)) (w.rates d) ≡ Some r
-    by true e = absurd (none-some r (sym none ∙ ap (rate_on w h) (sym (eqb-true d x e)) ∙ known))
-    by false e = known
-
 -- a rate stays, whatever happens next
 pub rate-stays : (w : World) (h : History) (e : Event) (d r : ℕ) → Lawful w (e ∷ h) → rate_on w h d ≡ Some r → rate_on w (e ∷ h) d ≡ Some r
-rate-stays w h (Published x y) d r l known = given w h x y d r (publishing w h x y l.0) known
-rate-stays w h (Arbitrated x y) d r l known = given w h x y d r (arbitrating w h x y l.0) known
+rate-stays w h (Published entry) d r l known =
+    let x = publishing w h entry l.0 in
+    sets-keeps (rate_on w h) (rate_on w (Published entry ∷ h)) entry d r (published_sets (source_of w h) entry x.free) x.unrated known
+rate-stays w h (Arbitrated entry) d r l known =
+    let x = arbitrating w h entry l.0 in
+    sets-keeps (rate_on w h) (rate_on w (Arbitrated entry ∷ h)) entry d r (arbitrated_sets (source_of w h) entry x.free) x.unrated known
 rate-stays w h e d r l known = known
+
+-- so one that was there when the book was made is there now
+pub since-made : (w : World) (h : History) (d r : ℕ) → Lawful w h → rates_of w.source d ≡ Some r → rate_on w h d ≡ Some r
+since-made w [] d r l known = known
+since-made w (e ∷ h) d r l known = rate-stays w h e d r l (since-made w h d r l.1 known)
 
 pub rates-stay : RatesStay
 rates-stay w [] h d r l known = known

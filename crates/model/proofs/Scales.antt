@@ -60,19 +60,19 @@ module _ (kinds : ℕ → DayKind) (rates : ℕ → Option ℕ) where
         rw (days-split is_reserve kinds first x y h l, length-append (reserve_days kinds first x) (reserve_days kinds x y))
         (pow-add 100000000 (length (reserve_days kinds first x)) (length (reserve_days kinds x y)))
 
-    -- carried further
+    -- scaled further
     pub scale-on : (x y d : ℕ) → d ≤ x → x ≤ y → scale_of kinds rates first y d ≡ scale_of kinds rates first x d * growth x y
     scale-on x y d h l = ap (λ n. unit d * n) (growth-split d x y h l) ∙ sym (mul_assoc (unit d) (growth d x) (growth x y))
 
     pub scale-here : (x : ℕ) → scale_of kinds rates first x x ≡ unit x
     scale-here x = ap (λ n. unit x * n) (growth-none x) ∙ mul-one (unit x)
 
-    -- each reserve day of a range, carried from the day after it
-    abbrev carried_days : ℕ → ℕ → ℕ
-    carried_days to from = sum_by (λ d. scale_of kinds rates first to (d + 1)) (reserve_days kinds from to)
+    -- each reserve day of a range, scaled from the day after it
+    abbrev scaled_days : ℕ → ℕ → ℕ
+    scaled_days to from = sum_by (λ d. scale_of kinds rates first to (d + 1)) (reserve_days kinds from to)
 
     days-drift-by : (n from to : ℕ) → to - from ≡ n → first ≤ from
-        → carried_days to from ≡ unit from * drift (factors rates (reserve_days kinds from to))
+        → scaled_days to from ≡ unit from * drift (factors rates (reserve_days kinds from to))
     days-drift-by zero from to e h = rw (days-none is_reserve kinds from to (omega arith)) (sym (mul-zero (unit from)))
     days-drift-by (suc n) from to e h = by (is_reserve (kinds from)) refl (days-drift-by n (from + 1) to (omega arith) (omega arith))
       where
@@ -83,8 +83,8 @@ module _ (kinds : ℕ → DayKind) (rates : ℕ → Option ℕ) where
         shape u g d = omega arith
 
         by : (b : Bool) → is_reserve (kinds from) ≡ b
-            → carried_days to (from + 1) ≡ unit (from + 1) * drift (factors rates (reserve_days kinds (from + 1) to))
-            → carried_days to from ≡ unit from * drift (factors rates (reserve_days kinds from to))
+            → scaled_days to (from + 1) ≡ unit (from + 1) * drift (factors rates (reserve_days kinds (from + 1) to))
+            → scaled_days to from ≡ unit from * drift (factors rates (reserve_days kinds from to))
         by true is more =
             let n = length (reserve_days kinds first from) in
             let u : unit (from + 1) ≡ unit from * 100000000 = rw (count-more is_reserve kinds first from h, is, add-one n, pow-suc 100000000 n) refl in
@@ -94,5 +94,5 @@ module _ (kinds : ℕ → DayKind) (rates : ℕ → Option ℕ) where
             let u : unit (from + 1) ≡ unit from = rw (count-more is_reserve kinds first from h, is, add-zero (length (reserve_days kinds first from))) refl in
             rw (days-head is_reserve kinds from to l, is, more, u) refl
 
-    pub days-drift : (from to : ℕ) → first ≤ from → carried_days to from ≡ unit from * drift (factors rates (reserve_days kinds from to))
+    pub days-drift : (from to : ℕ) → first ≤ from → scaled_days to from ≡ unit from * drift (factors rates (reserve_days kinds from to))
     days-drift from to h = days-drift-by (to - from) from to refl h

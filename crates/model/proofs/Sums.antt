@@ -3,8 +3,8 @@ use Rattle.std.proofs.Common.{◌≡◌, ℕ, ◌+◌, ◌*◌, ◌<◌, ◌≤�
 use mathlib.Core.Path.{fun_ext}
 use borrow.Author.Differences.{ints}
 use Rattle.std.specs.List.{AllByRecursion}
-use Rattle.std.proofs.ByRecursion.{All-append}
-use Rattle.std.proofs.lemmas.List.{append-nil, length_push}
+use Rattle.std.proofs.ByRecursion.{All-push}
+use Rattle.std.proofs.lemmas.List.{length_push}
 use Rattle.std.proofs.lemmas.List.Sums.{sum_by-cons, count_by-le-length}
 use Rattle.interest.proofs.Ring.{abs-mul}
 use Rattle.amounts.specs.declared.trades.Trade.{Trade}
@@ -13,21 +13,23 @@ use Rattle.amounts.specs.Sums.{total}
 use Rattle.amounts.specs.Trades.{contracts_of}
 use Rattle.amounts.proofs.Bounds.{contracts-size}
 use Rattle.amounts.proofs.Totals.{total_size, total-sum, total-zero}
+use Rattle.rates.specs.Meanings.{rates_of}
 use Rattle.model.specs.Accounts.{month_indices}
 use Rattle.model.specs.World.{World}
-use Rattle.model.specs.History.{History, Event, Amounts, Closed, Paid, written, list_of, gather}
+use Rattle.model.specs.History.{History, Amounts, Closed, Paid, amounts_written, gather}
 use Rattle.model.specs.Lawful.{Lawful}
+use Rattle.model.specs.Closing.{NothingDue}
 use Rattle.model.specs.Limits.{RatesLimited, AmountsWithin, AmountsLimited, DuesLimited, DuesFit}
 use Rattle.model.specs.Observed.{months_of, rate_on, session_day, open_session, trades_of, settlement_price}
-use Rattle.model.specs.Positions.{carried_of, corrected_to, adjustment_at, written_for, due_of}
+use Rattle.model.specs.Positions.{carried_of, corrected_to, adjustment_at, written_for}
 use Rattle.model.specs.Sessions.{sessions_of}
-use Rattle.model.proofs.Allowing.{open-on, closing}
+use Rattle.model.proofs.Allowing.{closing}
 use Rattle.model.proofs.Balancing.{once-below}
 use Rattle.model.proofs.Cells.{cells}
 use Rattle.model.proofs.Days.{closes-few, session-bound}
 use Rattle.model.proofs.Dealt.{FitsIn, session-fits, trades-few}
 use Rattle.model.proofs.Dues.{dues-move}
-use Rattle.model.proofs.Reliance.{price-limited, latest-most, carried-limited}
+use Rattle.model.proofs.Reliance.{price-limited, corrected-limited, carried-limited}
 use Rattle.model.proofs.Sizes.{PricedWithin, months-few, session-priced, rates-stay-limited}
 use Rattle.model.proofs.Unpaid.{closes-paid}
 
@@ -40,20 +42,20 @@ gain-most z a b k h l =
 
 -- a small trade, whose month stands at most once in a list
 record Small (ms : List ℕ) (t : Trade) : Type 0 where
-  quantity : t.quantity ≤ 20000
+  contracts : t.contracts ≤ 20000
   price : t.price ≤ 10000000
   once : count_by (eqb t.month) ms ≤ 1
 
 module _ (a : ℕ) (price : ℕ → ℕ) (low : (m : ℕ) → price m ≤ 10000000) where
   -- an account has contracts in the trade's month alone
-  contracts-most : (t : Trade) → t.quantity ≤ 20000 → (m : ℕ) → nat_abs (contracts_of a m t) ≤ cond (eqb t.month m) 1 0 * 20000
+  contracts-most : (t : Trade) → t.contracts ≤ 20000 → (m : ℕ) → nat_abs (contracts_of a m t) ≤ cond (eqb t.month m) 1 0 * 20000
   contracts-most t q m = by (eqb t.month m) refl
     where
       by : (b : Bool) → eqb t.month m ≡ b → nat_abs (contracts_of a m t) ≤ cond b 1 0 * 20000
       by true e = omega (arith, contracts-size a m t)
       by false e = rw e (omega (arith, ints))
 
-  trade-most : (t : Trade) → t.quantity ≤ 20000 → t.price ≤ 10000000 → (ms : List ℕ)
+  trade-most : (t : Trade) → t.contracts ≤ 20000 → t.price ≤ 10000000 → (ms : List ℕ)
       → nat_abs (total (λ m. gain_of (contracts_of a m t) (price m) t.price) ms) ≤ count_by (eqb t.month) ms * 200000000000
   trade-most t q p [] = omega arith
   trade-most t q p (m ∷ ms) =
@@ -68,7 +70,7 @@ module _ (a : ℕ) (price : ℕ → ℕ) (low : (m : ℕ) → price m ≤ 100000
   unfolding on_trades
   trades-most ms [] s = let z : total (λ m. on_trades a m (price m) []) ms ≡ pos 0 = total-zero ms in omega (arith, ints)
   trades-most ms (t ∷ ts) s =
-      let k = trade-most t s.0.quantity s.0.price ms in
+      let k = trade-most t s.0.contracts s.0.price ms in
       let o = s.0.once in
       rw (total-sum (λ m. gain_of (contracts_of a m t) (price m) t.price) (λ m. on_trades a m (price m) ts) ms)
       (omega (arith, ints, trades-most ms ts s.1))
@@ -79,7 +81,7 @@ smalls : (w : World) (h : History) (ms : List ℕ) → ((m : ℕ) → m < 16 →
 smalls w h ms once few [] f p = tt
 smalls w h ms once few (t ∷ ts) f p =
     let i = f.0.month in
-    (record { quantity = f.0.small; price = p.0.1; once = once t.month (omega arith) }, smalls w h ms once few ts f.1 p.1)
+    (record { contracts = f.0.small; price = p.0.1; once = once t.month (omega arith) }, smalls w h ms once few ts f.1 p.1)
 
 -- of every element alike
 every : (f : ℕ → ℤ) (k : ℕ) → ((m : ℕ) → nat_abs (f m) ≤ k) → (ms : List ℕ) → AllByRecursion (λ m. nat_abs (f m) ≤ k) ms
@@ -87,16 +89,16 @@ every f k e [] = tt
 every f k e (m ∷ ms) = (e m, every f k e ms)
 
 -- what the rules give at a close
-module _ (w : World) (h : History) (l : Lawful w h) (bounded : RatesLimited w.rates) (d : ℕ) (o : open_session h ≡ Some d) (a : ℕ) where
+module _ (w : World) (h : History) (l : Lawful w h) (bounded : RatesLimited (rates_of w.source)) (d : ℕ) (o : open_session h ≡ Some d) (a : ℕ) where
   abbrev corrected_at : ℕ → ℕ
   corrected_at m = corrected_to w (rate_on w h) (session_day h) (sessions_of w h) m
 
   on-carried : (m : ℕ) → nat_abs (gain_of (carried_of w h a m) (settlement_price w h m) (corrected_at m)) ≤ 6652670000000
   on-carried m =
-      let c : corrected_at m ≤ 13305340 = rw (open-on h d o).day (latest-most w h d l o (rates-stay-limited w h bounded l) m) in
+      let c : corrected_at m ≤ 13305340 = corrected-limited w h m l (rates-stay-limited w h bounded l) in
       let p = price-limited w h l m in
       let g = gain-most (carried_of w h a m) (settlement_price w h m) (corrected_at m) 13305340 (omega arith) c in
-      omega (arith, carried-limited w h l a m)
+      omega (arith, carried-limited w h a m l)
 
   all-most : (ms : List ℕ) → ((m : ℕ) → m < 16 → count_by (eqb m) ms ≤ 1) → nat_abs (total (adjustment_at w h a) ms) ≤ 51200000000000 + length ms * 6652670000000
   all-most ms once =
@@ -119,7 +121,7 @@ module _ (w : World) (h : History) (l : Lawful w h) (bounded : RatesLimited w.ra
       omega arith
 
 -- what a close writes
-pub close-within : (w : World) (h : History) (c : Amounts) → RatesLimited w.rates → Lawful w (Closed c ∷ h) → AmountsWithin c
+pub close-within : (w : World) (h : History) (c : Amounts) → RatesLimited (rates_of w.source) → Lawful w (Closed c ∷ h) → AmountsWithin c
 close-within w h c b l =
     let s = closing w h c l.0 in
     record {
@@ -127,16 +129,13 @@ close-within w h c b l =
       together = λ a. rw (fun_ext (λ m. cells w h c l a m)) (together-most w h l.1 b s.day s.session.is_open a);
     }
 
-new-within : (w : World) (h : History) (e : Event) → RatesLimited w.rates → Lawful w (e ∷ h) → AllByRecursion AmountsWithin (list_of (written e))
-new-within w h (Closed c) b l = (close-within w h c b l, tt)
-new-within w h e b l = tt
-
 pub amounts-limited : AmountsLimited
 amounts-limited w [] b l = tt
-amounts-limited w (e ∷ h) b l = All-append AmountsWithin (gather written h) (list_of (written e)) (amounts-limited w h b l.1) (new-within w h e b l)
+amounts-limited w (Closed c ∷ h) b l = All-push AmountsWithin (gather amounts_written h) c (amounts-limited w h b l.1) (close-within w h c b l)
+amounts-limited w (e ∷ h) b l = amounts-limited w h b l.1
 
 -- a close finds nothing due
-pub nothing-due : (w : World) (h : History) (c : Amounts) (a : ℕ) → Lawful w (Closed c ∷ h) → due_of h a ≡ pos 0
+pub nothing-due : NothingDue
 nothing-due w h c a l = ap (total (written_for a)) (closes-paid w h c l)
 
 pub dues-limited : DuesLimited
@@ -148,16 +147,16 @@ dues-limited w (Closed c ∷ h) a b l =
     let m = dues-move.closed h c a in
     record {
       due = rw m.0 (omega (arith, ints));
-      together = rw (m.0, m.1, length_push (gather written h) c) (omega (arith, ints));
+      together = rw (m.0, m.1, length_push (gather amounts_written h) c) (omega (arith, ints));
     }
 dues-limited w (Paid ∷ h) a b l =
     let k = (dues-limited w h a b l.1).together in
     let m = (dues-move.paid h a).1 in
-    record { due = omega (arith, ints); together = rw (m, append-nil (gather written h)) (omega (arith, ints)) }
+    record { due = omega (arith, ints); together = rw m (omega (arith, ints)) }
 dues-limited w (e ∷ h) a b l =
     let k = dues-limited w h a b l.1 in
     let m = dues-move.still e h a refl refl in
-    record { due = rw m.0 k.due; together = rw (m.0, m.1, append-nil (gather written h)) k.together }
+    record { due = rw m.0 k.due; together = rw (m.0, m.1) k.together }
 
 pub dues-fit : DuesFit
 dues-fit w h a b ends l =

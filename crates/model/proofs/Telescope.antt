@@ -22,21 +22,21 @@ use Rattle.amounts.specs.Amounts.{gain_of, on_trades, adjustment_of}
 use Rattle.model.specs.World.{World}
 use Rattle.model.specs.Sessions.{Session, up_to, oldest_day, newest_day, newest_price}
 use Rattle.model.specs.Positions.{contracts_in, corrected_to}
-use Rattle.model.specs.Value.{scale_of, adjustments_over, value_over, held_on, held_over}
+use Rattle.model.specs.Value.{scale_of, scaled_adjustments, scaled_value, held_on, scaled_holdings}
 use Rattle.model.proofs.Cells.{gain-none}
 use Rattle.model.proofs.Falling.{Falling}
 use Rattle.model.proofs.Scales.{sums_same, sums-times, days-within, growth, unit, unit-split, scale-on, scale-here, days-drift}
 
 -- ---- the claim, over sessions that count for a month
--- the inequality, with the last price carried and the reserve days given
-abbrev pub Near : (ℕ → ℕ) → ℕ → List ℕ → ℕ → ℕ → List Session → Type 0
-Near scale last_carried days a m ss =
-    nat_abs (pos 20 *ℤ adjustments_over scale a m ss -ℤ pos 20 *ℤ value_over scale last_carried a m ss) ≤ 10 * held_over scale a m ss days
+-- the inequality, with the last price scaled and the reserve days given
+abbrev pub WithinTolerance : (ℕ → ℕ) → ℕ → List ℕ → ℕ → ℕ → List Session → Type 0
+WithinTolerance scale last_scaled days a m ss =
+    nat_abs (pos 20 *ℤ scaled_adjustments scale a m ss -ℤ pos 20 *ℤ scaled_value scale last_scaled a m ss) ≤ 10 * scaled_holdings scale a m ss days
 
 -- the newest of them is its last
-abbrev pub NearFrom : World → (ℕ → Option ℕ) → ℕ → ℕ → ℕ → List Session → Type 0
-NearFrom w rates first a m ss =
-    Near (scale_of w.kinds rates first (newest_day ss)) (newest_price m ss * scale_of w.kinds rates first (newest_day ss) (newest_day ss))
+abbrev pub WithinFrom : World → (ℕ → Option ℕ) → ℕ → ℕ → ℕ → List Session → Type 0
+WithinFrom w rates first a m ss =
+    WithinTolerance (scale_of w.kinds rates first (newest_day ss)) (newest_price m ss * scale_of w.kinds rates first (newest_day ss) (newest_day ss))
     (reserve_days w.kinds first (newest_day ss)) a m ss
 
 -- ---- the trades of a session
@@ -64,7 +64,7 @@ module _ (a m : ℕ) where
       ap (λ f. total (λ t. contracts_of a m t *ℤ f t) ts) (fun_ext (λ t. by_one (pos t.price) (pos p))) ∙ trades-split (pos p) (pos 1) ts
 
   -- ---- many sessions
-  -- the cost of the trades, carried
+  -- the cost of the trades, scaled
   abbrev pub cost_over : (ℕ → ℕ) → List Session → ℤ
   cost_over scale ss = total (λ s. cost_of s.trades *ℤ pos (scale s.day)) ss
 
@@ -72,13 +72,13 @@ module _ (a m : ℕ) where
   split-more q w c k x y = simp expands (omega (arith, sums))
 
   pub value-split : (scale : ℕ → ℕ) (end : ℕ) (ss : List Session)
-      → value_over scale end a m ss ≡ contracts_in a m ss *ℤ pos end -ℤ cost_over scale ss
+      → scaled_value scale end a m ss ≡ contracts_in a m ss *ℤ pos end -ℤ cost_over scale ss
   value-split scale end [] = omega (arith, ints)
   value-split scale end (s ∷ ss) =
       rw (trades-split (pos end) (pos (scale s.day)) s.trades, value-split scale end ss)
       (split-more (position_change a m s.trades) (pos end) (cost_of s.trades) (pos (scale s.day)) (contracts_in a m ss) (cost_over scale ss))
 
--- a sum over sessions, carried further
+-- a sum over sessions, scaled further
 regroup : (f b g x : ℤ) → f *ℤ (b *ℤ g) +ℤ x *ℤ g ≡ (f *ℤ b +ℤ x) *ℤ g
 regroup f b g x = simp expands (omega (arith, sums))
 
@@ -120,10 +120,10 @@ start-eq t p k x s =
 one_more : (x y q t k cell : ℤ) (p p' s c g n s' d h : ℕ) → s' ≡ s * n → cell ≡ t *ℤ pos p' -ℤ k *ℤ pos 1 +ℤ q *ℤ (pos p' -ℤ pos c)
     → 2 * nat_abs (x -ℤ (q *ℤ pos (p * s) -ℤ y)) ≤ h → 2 * nat_abs (pos (p * g) -ℤ pos (c * n)) ≤ d
     → 2 * nat_abs ((cell *ℤ pos s' +ℤ x *ℤ pos g) -ℤ ((t +ℤ q) *ℤ pos (p' * s') -ℤ (k *ℤ pos s' +ℤ y *ℤ pos g))) ≤ h * g + nat_abs q * d * s
-one_more x y q t k cell p p' s c g n s' d h e is near round =
+one_more x y q t k cell p p' s c g n s' d h e is within round =
     let z = pos (p * g) -ℤ pos (c * n) in
     let r : 2 * nat_abs (q *ℤ z) ≤ nat_abs q * d = omega (arith, abs-mul q z, mul-le-mul_left (nat_abs q) round) in
-    let both = combine (x -ℤ (q *ℤ pos (p * s) -ℤ y)) (q *ℤ z) g s h (nat_abs q * d) near r in
+    let both = combine (x -ℤ (q *ℤ pos (p * s) -ℤ y)) (q *ℤ z) g s h (nat_abs q * d) within r in
     rw (e, is, step-eq x y q (pos p) (pos p') (pos s) (pos c) (pos g) (pos n) t k) both
 
 twenty : (x y : ℤ) (n : ℕ) → 2 * nat_abs (x -ℤ y) ≤ n → nat_abs (pos 20 *ℤ x -ℤ pos 20 *ℤ y) ≤ 10 * n
@@ -146,8 +146,8 @@ module _ (w : World) (rates : ℕ → Option ℕ) (a m : ℕ) where
     -- twice the distance is at most what is held
     abbrev Close : Session → List Session → Type 0
     Close s ss =
-        2 * nat_abs (adjustments_over (scale s.day) a m (s ∷ ss) -ℤ value_over (scale s.day) (s.prices m * scale s.day s.day) a m (s ∷ ss))
-        ≤ held_over (scale s.day) a m (s ∷ ss) (reserve_days w.kinds first s.day)
+        2 * nat_abs (scaled_adjustments (scale s.day) a m (s ∷ ss) -ℤ scaled_value (scale s.day) (s.prices m * scale s.day s.day) a m (s ∷ ss))
+        ≤ scaled_holdings (scale s.day) a m (s ∷ ss) (reserve_days w.kinds first s.day)
 
     start : (s : Session) → Adjusted s [] → Close s []
     start s h =
@@ -178,10 +178,10 @@ module _ (w : World) (rates : ℕ → Option ℕ) (a m : ℕ) where
         let all = All-weaker (λ x. x.day ≤ s.day) (λ x. x.day ≤ d) (λ x b. omega arith) (s ∷ ss) (up-to s ss f) in
         rw (later-left d r (s ∷ ss) l, all-kept d (s ∷ ss) all) (mul_comm (nat_abs (contracts_in a m (s ∷ ss))) (scale r.day (d + 1)))
 
-    -- what is held up to the new session: what was held, carried, and the position over the gap
+    -- what is held up to the new session: what was held, scaled, and the position over the gap
     held_more : (r s : Session) (ss : List Session) → Falling (r ∷ s ∷ ss) → first ≤ s.day
-        → held_over (scale r.day) a m (r ∷ s ∷ ss) (reserve_days w.kinds first r.day)
-        ≡ held_over (scale s.day) a m (s ∷ ss) (reserve_days w.kinds first s.day) * growth w.kinds rates s.day r.day
+        → scaled_holdings (scale r.day) a m (r ∷ s ∷ ss) (reserve_days w.kinds first r.day)
+        ≡ scaled_holdings (scale s.day) a m (s ∷ ss) (reserve_days w.kinds first s.day) * growth w.kinds rates s.day r.day
         + nat_abs (contracts_in a m (s ∷ ss)) * drift (factors rates (reserve_days w.kinds s.day r.day)) * unit w.kinds rates first s.day
     held_more r s ss f l =
         let later : s.day ≤ r.day = let lt = f.0.0 in omega arith in
@@ -206,7 +206,7 @@ module _ (w : World) (rates : ℕ → Option ℕ) (a m : ℕ) where
         shape b u d q = omega arith
 
     further : (r s : Session) (ss : List Session) → Falling (r ∷ s ∷ ss) → first ≤ s.day → Adjusted r (s ∷ ss) → Close s ss → Close r (s ∷ ss)
-    further r s ss f l h near =
+    further r s ss f l h within =
         let later : s.day ≤ r.day = let lt = f.0.0 in omega arith in
         let k = scale r.day r.day in
         let g = growth w.kinds rates s.day r.day in
@@ -218,7 +218,7 @@ module _ (w : World) (rates : ℕ → Option ℕ) (a m : ℕ) where
         let p = s.prices m in
         let p' = r.prices m in
         let corrected = corrected_price w.kinds rates s.day r.day p in
-        let x = adjustments_over (scale s.day) a m (s ∷ ss) in
+        let x = scaled_adjustments (scale s.day) a m (s ∷ ss) in
         let y = cost_over a m (scale s.day) (s ∷ ss) in
         let cell : r.amounts.adjustments a m ≡ t *ℤ pos p' -ℤ c *ℤ pos 1 +ℤ q *ℤ (pos p' -ℤ pos corrected) =
         rw (on-trades a m p' r.trades, on-carried q p' corrected) at h in
@@ -230,7 +230,7 @@ module _ (w : World) (rates : ℕ → Option ℕ) (a m : ℕ) where
         let unit-r : k ≡ u * n = scale-here w.kinds rates first r.day ∙ unit-split w.kinds rates first s.day r.day l later in
         let v = value-split a m (scale s.day) (p * scale s.day s.day) (s ∷ ss) ∙ ap (λ z. q *ℤ pos (p * z) -ℤ y) (scale-here w.kinds rates first s.day) in
         let all = one_more x y q t c (r.amounts.adjustments a m) p p' u corrected g n k (drift (factors rates (reserve_days w.kinds s.day r.day)))
-        (held_over (scale s.day) a m (s ∷ ss) (reserve_days w.kinds first s.day)) unit-r cell (rw v at near)
+        (scaled_holdings (scale s.day) a m (s ∷ ss) (reserve_days w.kinds first s.day)) unit-r cell (rw v at within)
         (rw (length-map (reserve_days w.kinds s.day r.day) (factor_on rates)) at (rounded p (factors rates (reserve_days w.kinds s.day r.day)))) in
         rw (value-split a m (scale r.day) (p' * k) (r ∷ s ∷ ss), cost, sum, held_more r s ss f l) all
 
@@ -240,9 +240,9 @@ module _ (w : World) (rates : ℕ → Option ℕ) (a m : ℕ) where
         let o = oldest-first s ss f.1 in
         further r s ss f (rw e o) h.0 (close s ss f.1 h.1 e)
 
-    pub near : (s : Session) (ss : List Session) → Falling (s ∷ ss) → Ruled (s ∷ ss) → first ≡ oldest_day s.day ss → NearFrom w rates first a m (s ∷ ss)
-    near s ss f h e = twenty
-        (adjustments_over (scale s.day) a m (s ∷ ss))
-        (value_over (scale s.day) (s.prices m * scale s.day s.day) a m (s ∷ ss))
-        (held_over (scale s.day) a m (s ∷ ss) (reserve_days w.kinds first s.day))
+    pub within : (s : Session) (ss : List Session) → Falling (s ∷ ss) → Ruled (s ∷ ss) → first ≡ oldest_day s.day ss → WithinFrom w rates first a m (s ∷ ss)
+    within s ss f h e = twenty
+        (scaled_adjustments (scale s.day) a m (s ∷ ss))
+        (scaled_value (scale s.day) (s.prices m * scale s.day s.day) a m (s ∷ ss))
+        (scaled_holdings (scale s.day) a m (s ∷ ss) (reserve_days w.kinds first s.day))
         (close s ss f h e)

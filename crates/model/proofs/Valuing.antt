@@ -3,13 +3,12 @@ use Rattle.std.proofs.Common.{◌≡◌, ℕ, ◌<◌, ◌≤◌, Bool, true, fa
 use borrow.Author.Differences.{ints}
 use Rattle.std.specs.List.{AllByRecursion}
 use Rattle.std.proofs.ByRecursion.{All-weaker}
-use Rattle.std.proofs.lemmas.List.{length-append}
 use Rattle.std.proofs.lemmas.Bool.{ltb-true, leb-true}
 use Rattle.calendar.specs.Spans.{reserve_days}
 use Rattle.correction.specs.Gaps.{first_unrated}
 use Rattle.interest.specs.Correction.{corrected}
 use Rattle.model.specs.World.{World}
-use Rattle.model.specs.History.{History, Event, Amounts, Closed, listed, list_of}
+use Rattle.model.specs.History.{History, Event, Amounts, Closed, month_listed}
 use Rattle.model.specs.Observed.{months_of, is_listed, expiry_at, rate_on, session_day, trades_of, settlement_price}
 use Rattle.model.specs.Sessions.{Session, sessions_of, up_to, has_reached, gap_to, oldest_day}
 use Rattle.model.specs.Positions.{has_ended, corrected_to}
@@ -20,9 +19,10 @@ use Rattle.model.proofs.Cells.{cells}
 use Rattle.model.proofs.Ended.{ended}
 use Rattle.model.proofs.Expiring.{months-stay}
 use Rattle.model.proofs.Falling.{Falling, unreached}
-use Rattle.model.proofs.Order.{falling, open-later}
+use Rattle.model.proofs.Gathering.{length-with_last}
+use Rattle.model.proofs.SessionOrder.{falling, open-later}
 use Rattle.model.proofs.Rated.{Kept, rate-stays, factors-stay, rated-stay}
-use Rattle.model.proofs.Telescope.{NearFrom, Adjusted, Ruled, all-kept, near}
+use Rattle.model.proofs.Telescope.{WithinFrom, Adjusted, Ruled, all-kept, within}
 
 module _ (w : World) (a m expiry : ℕ) where
   -- a session up to the expiry is adjusted by the rules, over a gap whose reserve days have rates
@@ -57,16 +57,16 @@ module _ (w : World) (a m expiry : ℕ) where
   ruled rates (s ∷ ss) b h = (h.0.adjusted b.0, ruled rates ss b.1 h.1)
 
   -- the claim of the sessions up to the expiry
-  near-upto : (rates : ℕ → Option ℕ) (d : ℕ) (ss : List Session) → Falling ss → AllRightly rates ss → NearFrom w rates (oldest_day d ss) a m (up_to expiry ss)
-  near-upto rates d [] f h = omega (arith, ints)
-  near-upto rates d (s ∷ ss) f h = by (leb s.day expiry) refl (near-upto rates s.day ss f.1 h.1)
+  within-upto : (rates : ℕ → Option ℕ) (d : ℕ) (ss : List Session) → Falling ss → AllRightly rates ss → WithinFrom w rates (oldest_day d ss) a m (up_to expiry ss)
+  within-upto rates d [] f h = omega (arith, ints)
+  within-upto rates d (s ∷ ss) f h = by (leb s.day expiry) refl (within-upto rates s.day ss f.1 h.1)
     where
-      by : (b : Bool) → leb s.day expiry ≡ b → NearFrom w rates (oldest_day s.day ss) a m (up_to expiry ss)
-          → NearFrom w rates (oldest_day s.day ss) a m (cond b (s ∷ up_to expiry ss) (up_to expiry ss))
+      by : (b : Bool) → leb s.day expiry ≡ b → WithinFrom w rates (oldest_day s.day ss) a m (up_to expiry ss)
+          → WithinFrom w rates (oldest_day s.day ss) a m (cond b (s ∷ up_to expiry ss) (up_to expiry ss))
       by true e earlier =
           let l = leb-true s.day expiry e in
           let all = All-weaker (λ r. r.day < s.day) (λ r. r.day ≤ expiry) (λ r b. omega arith) ss f.0 in
-          rw (all-kept expiry ss all) (near w rates a m (oldest_day s.day ss) s ss f (ruled rates (s ∷ ss) (l, all) h) refl)
+          rw (all-kept expiry ss all) (within w rates a m (oldest_day s.day ss) s ss f (ruled rates (s ∷ ss) (l, all) h) refl)
       by false e earlier = earlier
 
 -- the month has not expired before the close of a session up to its expiry
@@ -93,7 +93,7 @@ right-close w h c l a m expiry is =
 before-event : (w : World) (h : History) (e : Event) (m expiry : ℕ) → (m < length (months_of (e ∷ h)) → expiry_at w (e ∷ h) m ≡ expiry)
     → m < length (months_of h) → expiry_at w h m ≡ expiry
 before-event w h e m expiry is b =
-    sym (months-stay w h e m b) ∙ is (let n = length-append (months_of h) (list_of (listed e)) in omega arith)
+    sym (months-stay w h e m b) ∙ is (let n = length-with_last (months_of h) (month_listed e) in omega arith)
 
 pub all_right : (w : World) (h : History) → Lawful w h → (a m expiry : ℕ) → (m < length (months_of h) → expiry_at w h m ≡ expiry)
     → AllRightly w a m expiry (rate_on w h) (sessions_of w h)
@@ -105,10 +105,10 @@ all_right w (e ∷ h) l a m expiry is =
     rightly-stays w a m expiry (rate_on w h) (rate_on w (e ∷ h)) (λ d r. rate-stays w h e d r l) (sessions_of w h)
     (all_right w h l.1 a m expiry (before-event w h e m expiry is))
 
-near-value : (w : World) (h : History) → Lawful w h → (a m : ℕ)
-    → NearFrom w (rate_on w h) (oldest_day 0 (sessions_of w h)) a m (up_to (expiry_at w h m) (sessions_of w h))
-near-value w h l a m =
-    near-upto w a m (expiry_at w h m) (rate_on w h) 0 (sessions_of w h) (falling w h l) (all_right w h l a m (expiry_at w h m) (λ _. refl))
+value-within : (w : World) (h : History) → Lawful w h → (a m : ℕ)
+    → WithinFrom w (rate_on w h) (oldest_day 0 (sessions_of w h)) a m (up_to (expiry_at w h m) (sessions_of w h))
+value-within w h l a m =
+    within-upto w a m (expiry_at w h m) (rate_on w h) 0 (sessions_of w h) (falling w h l) (all_right w h l a m (expiry_at w h m) (λ _. refl))
 
 pub always-valued : AlwaysValued
-always-valued w h l = record { near = λ a m b. near-value w h l a m; over = ended w h l }
+always-valued w h l = record { within_tolerance = λ a m b. value-within w h l a m; nothing_after = ended w h l }

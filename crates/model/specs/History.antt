@@ -1,9 +1,10 @@
 -- What has happened to a book: the calls that it accepted, the newest first. No code stores it.
 -- Questions, refusals and slips that are written off change nothing in the book, and leave no event.
 use Rattle.std.specs.Prelude.{ℕ, Bool, true, false, cond, List, [], ◌∷◌, ◌++◌, ℤ, is_some, Some, None, Option, ◌==◌}
-use Rattle.rates.specs.Layers.{or_else}
+use Rattle.rates.specs.declared.entry.DayRate.{DayRate}
+use Rattle.rates.specs.Meanings.{or_else}
 use Rattle.amounts.specs.declared.trades.Trade.{Trade}
-use Rattle.model.specs.declared.accounts.Account.{Account}
+use Rattle.model.specs.declared.calls.Account.{Account}
 
 -- what a close wrote for each account and month, by their indices, in centavos; 0 where it wrote nothing
 pub record Amounts : Type 0 where
@@ -16,8 +17,8 @@ pub data Event : Type 0 where
   -- the number of a month
   Listed : ℕ → Event
   -- a day, and its rate in millionths of a percent
-  Published : ℕ → ℕ → Event
-  Arbitrated : ℕ → ℕ → Event
+  Published : DayRate → Event
+  Arbitrated : DayRate → Event
   -- a session day
   Opened : ℕ → Event
   Traded : Trade → Event
@@ -33,45 +34,34 @@ History = List Event
 -- What an event tells, for each thing that is asked of a history.
 
 -- the account that was added
-abbrev pub entered : Event → Option Account
-entered (Entered x) = Some x
-entered e = None
+abbrev pub account_entered : Event → Option Account
+account_entered (Entered x) = Some x
+account_entered e = None
 
 -- the month that was added
-abbrev pub listed : Event → Option ℕ
-listed (Listed n) = Some n
-listed e = None
-
--- the rate that a day was given
-abbrev pub rated : ℕ → Event → Option ℕ
-rated x (Published d r) = cond (x == d) (Some r) None
-rated x (Arbitrated d r) = cond (x == d) (Some r) None
-rated x e = None
-
--- the day of an arbitration
-abbrev pub arbitrated : Event → Option ℕ
-arbitrated (Arbitrated d r) = Some d
-arbitrated e = None
+abbrev pub month_listed : Event → Option ℕ
+month_listed (Listed n) = Some n
+month_listed e = None
 
 -- the session that was opened
-abbrev pub opened : Event → Option ℕ
-opened (Opened d) = Some d
-opened e = None
+abbrev pub session_opened : Event → Option ℕ
+session_opened (Opened d) = Some d
+session_opened e = None
 
 -- the trade that was accepted
-abbrev pub traded : Event → Option Trade
-traded (Traded t) = Some t
-traded e = None
+abbrev pub trade_made : Event → Option Trade
+trade_made (Traded t) = Some t
+trade_made e = None
 
 -- the price that a month was marked with
-abbrev pub marked : ℕ → Event → Option ℕ
-marked x (Marked m p) = cond (x == m) (Some p) None
-marked x e = None
+abbrev pub price_marked : ℕ → Event → Option ℕ
+price_marked x (Marked m p) = cond (x == m) (Some p) None
+price_marked x e = None
 
 -- what a close wrote
-abbrev pub written : Event → Option Amounts
-written (Closed c) = Some c
-written e = None
+abbrev pub amounts_written : Event → Option Amounts
+amounts_written (Closed c) = Some c
+amounts_written e = None
 
 -- a payment
 abbrev pub is_payment : Event → Bool
@@ -80,23 +70,23 @@ is_payment e = false
 
 -- a session was opened
 abbrev pub is_opening : Event → Bool
-is_opening e = is_some (opened e)
+is_opening e = is_some (session_opened e)
 
 -- a session was closed
 abbrev pub is_close : Event → Bool
-is_close e = is_some (written e)
+is_close e = is_some (amounts_written e)
 
 -- How a history is looked through.
 
--- none or one, as a list
-abbrev pub list_of : {X : Type 0} → Option X → List X
-list_of None = []
-list_of (Some x) = x ∷ []
+-- a list with one element more at the end, if there is one more
+abbrev pub with_last : {X : Type 0} → List X → Option X → List X
+with_last xs None = xs
+with_last xs (Some x) = xs ++ x ∷ []
 
 -- all that the events tell, in order of time
 abbrev pub gather : {X : Type 0} → (Event → Option X) → History → List X
 gather tells [] = []
-gather tells (e ∷ h) = gather tells h ++ list_of (tells e)
+gather tells (e ∷ h) = with_last (gather tells h) (tells e)
 
 -- the newest that an event tells
 abbrev pub newest : {X : Type 0} → (Event → Option X) → History → Option X

@@ -1,11 +1,15 @@
 -- How large things get in lawful histories.
 use Rattle.std.specs.Prelude.{◌≡◌, ℕ, ◌+◌, ◌*◌, ◌^◌, ◌<◌, ◌≤◌, true, false, ◌&&◌, length, pos, Some, None, Option, nat_eq, unsigned_abs}
-use Rattle.std.specs.List.{AllByRecursion}
+use Rattle.std.specs.List.{AllByRecursion, list_any}
 use Rattle.calendar.specs.declared.kind.DayKind.TheVariants.{ClosedDay}
 use Rattle.calendar.specs.Kinds.{is_session}
+use Rattle.dates.specs.declared.TheConstants.{LAST_DAY}
+use Rattle.interest.specs.declared.di_rates.TheConstants.{MAX_DI_RATE}
+use Rattle.rates.specs.Meanings.{rates_of}
+use Rattle.amounts.specs.declared.trades.TheConstants.{MAX_ACCOUNTS, MAX_MONTHS, MAX_POSITION}
 use Rattle.amounts.specs.Trades.{Limited}
-use Rattle.model.specs.Accounts.{account_indices, month_indices, is_among}
-use Rattle.model.specs.History.{History, Amounts, traded, written, gather}
+use Rattle.model.specs.Accounts.{account_indices, month_indices}
+use Rattle.model.specs.History.{History, Amounts, trade_made, amounts_written, gather}
 use Rattle.model.specs.Lawful.{Lawful}
 use Rattle.model.specs.Observed.{accounts_of, months_of, rate_on, opened_days, latest_opened, session_day, open_session, trades_of, settlement_price}
 use Rattle.model.specs.Positions.{position_of, written_for, due_of, paid_of}
@@ -14,11 +18,11 @@ use Rattle.model.specs.World.{World}
 
 -- at most 32 accounts and 16 months
 abbrev pub TablesLimited : Type 0
-TablesLimited = (w : World) (h : History) → Lawful w h → (length (accounts_of h) ≤ 32) × (length (months_of h) ≤ 16)
+TablesLimited = (w : World) (h : History) → Lawful w h → (length (accounts_of h) ≤ MAX_ACCOUNTS) × (length (months_of h) ≤ MAX_MONTHS)
 
 -- no position passes 500,000 contracts, bought or sold
 abbrev pub PositionsLimited : Type 0
-PositionsLimited = (w : World) (h : History) (a m : ℕ) → Lawful w h → unsigned_abs (position_of w h a m) ≤ 500000
+PositionsLimited = (w : World) (h : History) (a m : ℕ) → Lawful w h → unsigned_abs (position_of w h a m) ≤ MAX_POSITION
 
 -- every session has at most 256 trades, of at most 20,000 contracts each
 abbrev pub TradesLimited : Type 0
@@ -30,8 +34,10 @@ pub record PricesWithin (w : World) (h : History) : Type 0 where
   pub session : (m : ℕ) → settlement_price w h m ≤ 10000000
   -- of the closed sessions
   pub closed : AllByRecursion (λ s. (m : ℕ) → s.prices m ≤ 10000000) (sessions_of w h)
+  -- of the trades of the latest session
+  pub dealt_in_session : AllByRecursion (λ t. (1 ≤ t.price) × (t.price ≤ 10000000)) (trades_of h)
   -- of all trades so far
-  pub dealt : AllByRecursion (λ t. (1 ≤ t.price) × (t.price ≤ 10000000)) (gather traded h)
+  pub dealt : AllByRecursion (λ t. (1 ≤ t.price) × (t.price ≤ 10000000)) (gather trade_made h)
 
 -- in every lawful history
 abbrev pub PricesLimited : Type 0
@@ -50,16 +56,20 @@ ClosedDays = (w : World) (h : History) → Lawful w h
 -- a close wrote nothing but for the indices of accounts and months
 abbrev pub NothingOutside : Type 0
 NothingOutside = (w : World) (h : History) → Lawful w h
-    → AllByRecursion (λ c. (a m : ℕ) → (is_among nat_eq a account_indices && is_among nat_eq m month_indices) ≡ false
-    → (c.adjustments a m ≡ pos 0) × (c.day_trades a m ≡ pos 0)) (gather written h)
+    → AllByRecursion (λ c. (a m : ℕ) → (list_any (nat_eq a) account_indices && list_any (nat_eq m) month_indices) ≡ false
+    → (c.adjustments a m ≡ pos 0) × (c.day_trades a m ≡ pos 0)) (gather amounts_written h)
 
 -- no rate is over 99,999,999
 abbrev pub RatesLimited : (ℕ → Option ℕ) → Type 0
-RatesLimited rates = (d r : ℕ) → rates d ≡ Some r → r ≤ 99999999
+RatesLimited rates = (d r : ℕ) → rates d ≡ Some r → r ≤ MAX_DI_RATE
 
 -- where no rate of the source is over 99,999,999, none ever is
 abbrev pub RatesStayLimited : Type 0
-RatesStayLimited = (w : World) (h : History) → RatesLimited w.rates → Lawful w h → RatesLimited (rate_on w h)
+RatesStayLimited = (w : World) (h : History) → RatesLimited (rates_of w.source) → Lawful w h → RatesLimited (rate_on w h)
+
+-- and where none is now, none was
+abbrev pub RatesWereLimited : Type 0
+RatesWereLimited = (w : World) (h : History) → Lawful w h → RatesLimited (rate_on w h) → RatesLimited (rates_of w.source)
 
 -- the adjustments that a close wrote for an account, in each month and in all months together
 pub record AmountsWithin (c : Amounts) : Type 0 where
@@ -68,26 +78,26 @@ pub record AmountsWithin (c : Amounts) : Type 0 where
 
 -- every close, where no rate of the source is over 99,999,999
 abbrev pub AmountsLimited : Type 0
-AmountsLimited = (w : World) (h : History) → RatesLimited w.rates → Lawful w h → AllByRecursion AmountsWithin (gather written h)
+AmountsLimited = (w : World) (h : History) → RatesLimited (rates_of w.source) → Lawful w h → AllByRecursion AmountsWithin (gather amounts_written h)
 
 -- due and paid of an account
 pub record DuesWithin (h : History) (a : ℕ) : Type 0 where
   -- what is due is of one close at most
   pub due : unsigned_abs (due_of h a) ≤ 160000000000000
   -- paid and due are of all closes together
-  pub together : unsigned_abs (paid_of h a) + unsigned_abs (due_of h a) ≤ length (gather written h) * 160000000000000
+  pub together : unsigned_abs (paid_of h a) + unsigned_abs (due_of h a) ≤ length (gather amounts_written h) * 160000000000000
 
 -- every account, under the same condition
 abbrev pub DuesLimited : Type 0
-DuesLimited = (w : World) (h : History) (a : ℕ) → RatesLimited w.rates → Lawful w h → DuesWithin h a
+DuesLimited = (w : World) (h : History) (a : ℕ) → RatesLimited (rates_of w.source) → Lawful w h → DuesWithin h a
 
 -- no more closes than days up to the latest session, included; its day is 0 before the first
 abbrev pub ClosesFew : Type 0
-ClosesFew = (w : World) (h : History) → Lawful w h → length (gather written h) ≤ session_day h + 1
+ClosesFew = (w : World) (h : History) → Lawful w h → length (gather amounts_written h) ≤ session_day h + 1
 
 -- on a calendar, which is closed from day 36,525 on, due and paid fit in 64 bits
 abbrev pub DuesFit : Type 0
-DuesFit = (w : World) (h : History) (a : ℕ) → RatesLimited w.rates → ((d : ℕ) → 36524 < d → w.kinds d ≡ ClosedDay) → Lawful w h
+DuesFit = (w : World) (h : History) (a : ℕ) → RatesLimited (rates_of w.source) → ((d : ℕ) → LAST_DAY < d → w.kinds d ≡ ClosedDay) → Lawful w h
     → unsigned_abs (paid_of h a) + unsigned_abs (due_of h a) < 2 ^ 63
 
 -- all of them
@@ -100,6 +110,7 @@ pub record LimitsHold : Type 0 where
   pub closed : ClosedDays
   pub outside : NothingOutside
   pub rates : RatesStayLimited
+  pub rates_before : RatesWereLimited
   pub amounts : AmountsLimited
   pub dues : DuesLimited
   pub closes : ClosesFew

@@ -4,9 +4,9 @@ use Rattle.std.specs.List.{AllByRecursion}
 use Rattle.amounts.specs.declared.trades.Trade.{Trade}
 use Rattle.amounts.specs.Trades.{contracts_of}
 use Rattle.amounts.specs.DayTrades.{day_trade}
-use Rattle.model.specs.History.{History, Event, Amounts, Traded, Closed, Paid, traded, written, is_payment}
-use Rattle.model.specs.Lawful.{price_on, Lawful}
-use Rattle.model.specs.Observed.{months_of, is_listed, expiry_at, session_day, open_session, trades_of}
+use Rattle.model.specs.History.{History, Event, Amounts, Traded, Closed, Paid, trade_made, amounts_written, is_payment}
+use Rattle.model.specs.Lawful.{Lawful}
+use Rattle.model.specs.Observed.{months_of, is_listed, expiry_at, session_day, open_session, trades_of, price_on, order_of}
 use Rattle.model.specs.Positions.{has_ended, position_of, written_for, due_of, paid_of}
 use Rattle.model.specs.Sessions.{sessions_of}
 use Rattle.model.specs.World.{World}
@@ -23,7 +23,7 @@ pub record PositionsMove : Type 0 where
   pub close : (w : World) (h : History) (c : Amounts) (a m : ℕ) → Lawful w (Closed c ∷ h)
       → position_of w (Closed c ∷ h) a m ≡ cond (is_expired w h m) (pos 0) (position_of w h a m)
   -- nothing else moves it
-  pub still : (w : World) (e : Event) (h : History) (a m : ℕ) → Lawful w (e ∷ h) → traded e ≡ None → written e ≡ None → position_of w (e ∷ h) a m ≡ position_of w h a m
+  pub still : (w : World) (e : Event) (h : History) (a m : ℕ) → Lawful w (e ∷ h) → trade_made e ≡ None → amounts_written e ≡ None → position_of w (e ∷ h) a m ≡ position_of w h a m
 
 -- what moves due and paid, in every history
 pub record DuesMove : Type 0 where
@@ -32,7 +32,7 @@ pub record DuesMove : Type 0 where
   -- a payment moves all that is due to what is paid
   pub paid : (h : History) (a : ℕ) → (due_of (Paid ∷ h) a ≡ pos 0) × (paid_of (Paid ∷ h) a ≡ paid_of h a +ℤ due_of h a)
   -- nothing else moves either
-  pub still : (e : Event) (h : History) (a : ℕ) → written e ≡ None → is_payment e ≡ false → (due_of (e ∷ h) a ≡ due_of h a) × (paid_of (e ∷ h) a ≡ paid_of h a)
+  pub still : (e : Event) (h : History) (a : ℕ) → amounts_written e ≡ None → is_payment e ≡ false → (due_of (e ∷ h) a ≡ due_of h a) × (paid_of (e ∷ h) a ≡ paid_of h a)
 
 -- of each trade of each closed session, and of the latest session, with the day of its session
 abbrev pub OfTrades : World → History → (ℕ → Trade → Type 0) → Type 0
@@ -44,7 +44,7 @@ InTime w h day t = (t.month < length (months_of h)) × (day < expiry_at w h t.mo
 
 -- a trade at the price that the rules give on the day
 abbrev pub AtPrice : World → History → ℕ → Trade → Type 0
-AtPrice w h day t = t.price ≡ price_on w h day t
+AtPrice w h day t = t.price ≡ price_on w h day (order_of t)
 
 -- trades are in listed months, and their sessions before the expiry
 abbrev pub TradesInTime : Type 0

@@ -24,22 +24,22 @@ abbrev pub scale_of : (ℕ → DayKind) → (ℕ → Option ℕ) → ℕ → ℕ
 scale_of kinds rates first last d =
     100000000 ^ length (reserve_days kinds first d) * product (factors rates (reserve_days kinds d last))
 
--- the adjustments of the account in a month, carried
-abbrev pub adjustments_over : (ℕ → ℕ) → ℕ → ℕ → List Session → ℤ
-adjustments_over scale a m ss = total (λ s. s.amounts.adjustments a m *ℤ pos (scale s.day)) ss
+-- the adjustments of the account in a month, scaled
+abbrev pub scaled_adjustments : (ℕ → ℕ) → ℕ → ℕ → List Session → ℤ
+scaled_adjustments scale a m ss = total (λ s. s.amounts.adjustments a m *ℤ pos (scale s.day)) ss
 
--- the value of the account's trades in the month, each price carried; contracts are + for the seller in rate and − for the buyer
-abbrev pub value_over : (ℕ → ℕ) → ℕ → ℕ → ℕ → List Session → ℤ
-value_over scale last_carried a m ss =
-    total (λ s. total (λ t. contracts_of a m t *ℤ (pos last_carried -ℤ pos (t.price * scale s.day))) s.trades) ss
+-- the value of the account's trades in the month, each price scaled; contracts are + for the seller in rate and − for the buyer
+abbrev pub scaled_value : (ℕ → ℕ) → ℕ → ℕ → ℕ → List Session → ℤ
+scaled_value scale last_scaled a m ss =
+    total (λ s. total (λ t. contracts_of a m t *ℤ (pos last_scaled -ℤ pos (t.price * scale s.day))) s.trades) ss
 
 -- the contracts held on a day, bought or sold: over the trades of sessions up to it
 abbrev pub held_on : ℕ → ℕ → List Session → ℕ → ℕ
 held_on a m ss d = unsigned_abs (contracts_in a m (up_to d ss))
 
--- the contracts held on each of the days, carried from the day after it
-abbrev pub held_over : (ℕ → ℕ) → ℕ → ℕ → List Session → List ℕ → ℕ
-held_over scale a m ss days = sum_by (λ d. held_on a m ss d * scale (d + 1)) days
+-- the contracts held on each of the days, scaled from the day after it
+abbrev pub scaled_holdings : (ℕ → ℕ) → ℕ → ℕ → List Session → List ℕ → ℕ
+scaled_holdings scale a m ss days = sum_by (λ d. held_on a m ss d * scale (d + 1)) days
 
 -- ---- for an account and a month
 
@@ -62,20 +62,20 @@ scale_in w h m = scale_of w.kinds (rate_on w h) (first_closed w h) (last_closed 
 -- how far the adjustments are from the value of the trades
 abbrev pub apart_of : World → History → ℕ → ℕ → ℕ
 apart_of w h a m =
-    unsigned_abs (pos 20 *ℤ adjustments_over (scale_in w h m) a m (counted_of w h m)
-    -ℤ pos 20 *ℤ value_over (scale_in w h m) (newest_price m (counted_of w h m) * scale_in w h m (last_closed w h m)) a m (counted_of w h m))
+    unsigned_abs (pos 20 *ℤ scaled_adjustments (scale_in w h m) a m (counted_of w h m)
+    -ℤ pos 20 *ℤ scaled_value (scale_in w h m) (newest_price m (counted_of w h m) * scale_in w h m (last_closed w h m)) a m (counted_of w h m))
 
 -- how far they may be
 abbrev pub tolerance_of : World → History → ℕ → ℕ → ℕ
 tolerance_of w h a m =
-    10 * held_over (scale_in w h m) a m (counted_of w h m) (reserve_days w.kinds (first_closed w h) (last_closed w h m))
+    10 * scaled_holdings (scale_in w h m) a m (counted_of w h m) (reserve_days w.kinds (first_closed w h) (last_closed w h m))
 
 -- the claim
 pub record Valued (w : World) (h : History) : Type 0 where
   -- of each account, in each listed month
-  pub near : (a m : ℕ) → m < length (months_of h) → apart_of w h a m ≤ tolerance_of w h a m
+  pub within_tolerance : (a m : ℕ) → m < length (months_of h) → apart_of w h a m ≤ tolerance_of w h a m
   -- after the expiry all adjustments are 0
-  pub over : (a m : ℕ) → m < length (months_of h) → AllByRecursion (λ s. expiry_at w h m < s.day → s.amounts.adjustments a m ≡ pos 0) (sessions_of w h)
+  pub nothing_after : (a m : ℕ) → m < length (months_of h) → AllByRecursion (λ s. expiry_at w h m < s.day → s.amounts.adjustments a m ≡ pos 0) (sessions_of w h)
 
 -- it holds of every lawful history
 abbrev pub AlwaysValued : Type 0

@@ -1,11 +1,9 @@
 -- What callers conclude from a publication or an arbitration.
-use Rattle.std.proofs.Common.{◌≡◌, ℕ, true, false, cond, List, ◌++◌, Some, None, Ok, Err, Option, Result, ◌==◌, refl, ap, sym, ◌∙◌, arith}
+use Rattle.std.proofs.Common.{◌≡◌, ℕ, true, false, cond, List, ◌++◌, Some, None, Ok, Err, Option, Result, refl, ap, ◌∙◌, arith}
 use Rattle.std.proofs.lemmas.Bool.Decides.{nat_tests}
 use Rattle.rows.specs.Rows.{Row, first_row}
 use Rattle.rates.specs.declared.entry.DayRate.{DayRate}
 use Rattle.rates.specs.declared.error.Error.{Error}
-use Rattle.rates.specs.declared.error.Error.TheVariants.{OutsideHorizon, HasRate, RateTooHigh, BadPeriod, LayerFull}
-use Rattle.rates.specs.Errors.{reason_of}
 use Rattle.rates.specs.Horizons.{inside}
 use Rattle.rates.specs.ArbitratedDays.{arbitrated_rate}
 use Rattle.rates.specs.Meanings.{Meaning, rates_of, under, or_else}
@@ -37,12 +35,6 @@ pub day-free : (m : Meaning) (day : ℕ) (more : List Row) → None ≡ first_ro
     → (inside m.horizon day ≡ true) × (rates_of m day ≡ None)
 day-free m day more free = (grind (arith, nat_tests), grind (arith, nat_tests))
 
--- a publication keeps the days of every layer
-pub published-layers : {X : Type 0} (meaning : X → Meaning) (before after : X) (entry : DayRate) (period : ℕ) (r : Result (Unit {0}) Error)
-    → Publication meaning before after entry period r → (meaning after).layers ≡ (meaning before).layers
-published-layers meaning before after entry period (Ok done) p = ap (λ m. m.layers) (p.accepted refl)
-published-layers meaning before after entry period (Err e) p = ap (λ x. (meaning x).layers) (p.refused refl)
-
 -- a day that has a rate keeps it through a publication
 pub published-keeps : {X : Type 0} (meaning : X → Meaning) (before after : X) (entry : DayRate) (period : ℕ) (r : Result (Unit {0}) Error)
     → Publication meaning before after entry period r → (d v : ℕ) → rates_of (meaning before) d ≡ Some v → rates_of (meaning after) d ≡ Some v
@@ -58,18 +50,3 @@ arbitration-keeps meaning before after entry (Ok done) p d v had =
     sets-keeps (rates_of (meaning before)) (rates_of (meaning after)) entry d v (p.rates refl)
     (day-free (meaning before) entry.day (keep_rows (meaning before) entry.rate) p.answers).1 had
 arbitration-keeps {X = X} meaning before after entry (Err e) p d v had = ap (λ (x : X). rates_of (meaning x) d) (p.refused refl) ∙ had
-
--- the error that has a number
-abbrev pub with_number : ℕ → Error
-with_number n = cond (n == 21) OutsideHorizon (cond (n == 22) HasRate (cond (n == 23) RateTooHigh (cond (n == 24) BadPeriod LayerFull)))
-
-with_number-reason : (e : Error) → with_number (reason_of e).number ≡ e
-with_number-reason OutsideHorizon = refl
-with_number-reason HasRate = refl
-with_number-reason RateTooHigh = refl
-with_number-reason BadPeriod = refl
-with_number-reason LayerFull = refl
-
--- no two errors tell the same
-pub reasons-apart : (a b : Error) → reason_of a ≡ reason_of b → a ≡ b
-reasons-apart a b same = sym (with_number-reason a) ∙ ap (λ t. with_number t.number) same ∙ with_number-reason b

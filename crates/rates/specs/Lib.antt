@@ -1,10 +1,8 @@
+pub mod ArbitratedDays
 pub mod Errors
 pub mod Horizons
 pub mod Layers
-pub mod ArbitratedDays
 pub mod Meanings
 pub mod Publishing
-pub mod TableSources
+pub mod RateBounds
 pub mod Tables
-pub mod Layering
-pub mod DayLaws

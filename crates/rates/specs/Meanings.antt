@@ -17,17 +17,17 @@ or_else (Some x) other = Some x
 or_else None other = other
 
 -- the published rate, else that of the innermost layer that has one
-abbrev pub stacked : (ℕ → Option ℕ) → List (List DayRate) → ℕ → Option ℕ
-stacked published [] d = published d
-stacked published (days ∷ below) d = or_else (stacked published below d) (arbitrated_rate days d)
+abbrev pub layered_rate : (ℕ → Option ℕ) → List (List DayRate) → ℕ → Option ℕ
+layered_rate published [] d = published d
+layered_rate published (days ∷ below) d = or_else (layered_rate published below d) (arbitrated_rate days d)
 
--- the rate of a day: inside the horizon the stacked one, else none
+-- the rate of a day: inside the horizon the published or arbitrated one, else none
 abbrev pub rates_of : Meaning → ℕ → Option ℕ
-rates_of m d = cond (inside m.horizon d) (stacked m.published m.layers d) None
+rates_of m d = cond (inside m.horizon d) (layered_rate m.published m.layers d) None
 
 -- a source without layers
-abbrev pub bare : Horizon → (ℕ → Option ℕ) → Meaning
-bare h published = record { horizon = h; published = published; layers = [] }
+abbrev pub plain_meaning : Horizon → (ℕ → Option ℕ) → Meaning
+plain_meaning h published = record { horizon = h; published = published; layers = [] }
 
 -- a source under one more layer
 abbrev pub under : List DayRate → Meaning → Meaning

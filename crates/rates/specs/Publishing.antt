@@ -1,8 +1,10 @@
 -- What a publication and an arbitration do to what a source means.
 use Rattle.std.specs.Prelude.{◌≡◌, ℕ, true, false, not, List, [], ◌∷◌, ◌++◌, length, is_some, is_ok, None, Option, Result, ◌==◌, nat_le, nat_lt}
+use Rattle.interest.specs.declared.di_rates.TheConstants.{MAX_DI_RATE}
 use Rattle.rows.specs.Rows.{Row, first_row, reason_by, numbered}
 use Rattle.rates.specs.declared.entry.DayRate.{DayRate}
 use Rattle.rates.specs.declared.error.Error.{Error}
+use Rattle.rates.specs.declared.layer.TheConstants.{MAX_ARBITRATED_DAYS}
 use Rattle.rates.specs.Errors.{reason_of}
 use Rattle.rates.specs.Horizons.{inside}
 use Rattle.rates.specs.Meanings.{Meaning, rates_of, with_rate, topmost, published_in, arbitrated_in}
@@ -13,7 +15,7 @@ day_rows m day = (not (inside m.horizon day), numbered 21) ∷ (is_some (rates_o
 
 -- 23: a rate over the highest is refused
 abbrev pub rate_row : ℕ → Row
-rate_row rate = (nat_lt 99999999 rate, numbered 23)
+rate_row rate = (nat_lt MAX_DI_RATE rate, numbered 23)
 
 -- 23, 24: a rate is published for a period of one day
 abbrev pub term_rows : ℕ → ℕ → List Row
@@ -21,7 +23,7 @@ term_rows rate period = rate_row rate ∷ (not (period == 1), numbered 24) ∷ [
 
 -- 23, 25: the topmost layer keeps sixteen days at most
 abbrev pub keep_rows : Meaning → ℕ → List Row
-keep_rows m rate = rate_row rate ∷ (nat_le 16 (length (topmost m.layers)), numbered 25) ∷ []
+keep_rows m rate = rate_row rate ∷ (nat_le MAX_ARBITRATED_DAYS (length (topmost m.layers)), numbered 25) ∷ []
 
 -- the refusals of a publication, in their order
 abbrev pub publish_rows : Meaning → DayRate → ℕ → List Row

@@ -1,13 +1,13 @@
-// One rate on every day.
-ghost use Rattle.rates.specs.Meanings.{bare};
-ghost use Rattle.rates.specs.Tables.{flat};
+//! One rate on every day.
+ghost use Rattle.rates.specs.Meanings.{plain_meaning};
+ghost use Rattle.rates.specs.Tables.{flat_rate};
 ghost use Rattle.std.proofs.Common.{rules};
 
 use crate::horizon::Horizon;
 use crate::source::RateSource;
 use interest::MAX_DI_RATE;
 
-// A rate above the highest makes every day none.
+/// A source with one rate on every day of its horizon; a rate above the highest makes every day none.
 // Kept: any 32 bits are taken as a rate by the rules, so there is no Option in its place.
 #[derive(Clone, Copy, PartialEq, Eq, Debug)]
 pub struct FlatSource {
@@ -16,7 +16,7 @@ pub struct FlatSource {
 }
 
 impl RateSource for FlatSource {
-    ghost meaning = { λ x. bare x.horizon (flat x.horizon x.rate) };
+    ghost meaning = { λ x. plain_meaning x.horizon (flat_rate x.horizon x.rate) };
 
     ghost bounded = { Prim.search rules };
 

@@ -1,4 +1,4 @@
-// Sources at their edges, and a table under three layers.
+//! Sources at their edges, and a table under three layers.
 ghost use Rattle.std.specs.Prelude.{◌≡◌, ℕ, true, is_some, Some};
 
 use crate::entry::DayRate;
@@ -66,7 +66,7 @@ fn sixteen_days(rt: HostRuntime) -> Result<(), Fail> {
         horizon,
         rate: 100_000_000,
     };
-    let mut layer = ArbitrationLayer::new(rt.alloc(), none).ok().ok_or("no memory")?;
+    let mut layer = ArbitrationLayer::new(none);
     for day in 0..16 {
         assert_eq!(rt; layer.arbitrate(DayRate { day, rate: 5 }), Ok(()));
     }
@@ -119,10 +119,10 @@ fn published_under<S: Publishing>(
 #[test]
 fn three_layers(rt: HostRuntime) -> Result<(), Fail> {
     let table = TableSource::empty(rt.alloc(), 100, 3)?;
-    let mut inner = ArbitrationLayer::new(rt.alloc(), table).ok().ok_or("no memory")?;
+    let mut inner = ArbitrationLayer::new(table);
     inner.arbitrate(DayRate { day: 101, rate: 7 })?;
-    let middle = ArbitrationLayer::new(rt.alloc(), inner).ok().ok_or("no memory")?;
-    let mut outer = ArbitrationLayer::new(rt.alloc(), middle).ok().ok_or("no memory")?;
+    let middle = ArbitrationLayer::new(inner);
+    let mut outer = ArbitrationLayer::new(middle);
     outer.arbitrate(DayRate { day: 102, rate: 8 })?;
     assert_eq!(rt; published(&mut outer, 100, 6), Some(6));
     assert_eq!(rt;
@@ -130,7 +130,13 @@ fn three_layers(rt: HostRuntime) -> Result<(), Fail> {
         Err(Error::HasRate)
     );
     assert_eq!(rt;
-        outer.publish(DayRate { day: 102, rate: 9 }, 1),
+        outer.publish(
+            DayRate {
+                day: 102,
+                rate: 100_000_000
+            },
+            2
+        ),
         Err(Error::HasRate)
     );
     assert_eq!(rt;

@@ -1,0 +1,7 @@
+pub mod Tables
+pub mod Inside
+pub mod Causes
+pub mod Changes
+pub mod Keeps
+pub mod Calls
+pub mod Returned

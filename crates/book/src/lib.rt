@@ -1,0 +1,9 @@
+// A position book over any calendar and any source of rates.
+#![tactic(auto)]
+
+mod ledger;
+mod position_book;
+mod references;
+
+pub use position_book::{Book, Kept};
+pub use references::{CloseRefused, PayRefused, Slip, Ticket};

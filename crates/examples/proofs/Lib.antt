@@ -1,0 +1,10 @@
+mod Answers
+mod Edges
+mod FullTolerance
+mod LawfulSteps
+mod MonthNumbers
+mod MonthToItsEnd
+mod SeveralMonths
+mod SheetEdges
+mod TwoLayers
+mod WrongBooks

@@ -1,0 +1,9 @@
+pub mod Answers
+pub mod Books
+pub mod Edges
+pub mod FullTolerance
+pub mod MonthToItsEnd
+pub mod SeveralMonths
+pub mod SheetEdges
+pub mod TwoLayers
+pub mod WrongBooks
