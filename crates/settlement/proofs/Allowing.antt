@@ -87,9 +87,9 @@ pub record Trading (w : World) (h : History) (t : Trade) : Type 0 where
   pub month : t.month < length (months_of h)
   pub before-expiry : day < expiry_at w h t.month
   pub apart : t.buyer ≡ t.seller → ⊥
-  pub small : t.quantity ≤ 20000
-  pub buyer-limit : nat_abs (position_of w h t.buyer t.month -ℤ pos t.quantity) ≤ 500000
-  pub seller-limit : nat_abs (position_of w h t.seller t.month +ℤ pos t.quantity) ≤ 500000
+  pub small : t.contracts ≤ 20000
+  pub buyer-limit : nat_abs (position_of w h t.buyer t.month -ℤ pos t.contracts) ≤ 500000
+  pub seller-limit : nat_abs (position_of w h t.seller t.month +ℤ pos t.contracts) ≤ 500000
   pub few : length (trades_of h) < 256
 
 pub trading : (w : World) (h : History) (t : Trade) → Accepts w h (Traded t) → Trading w h t

@@ -10,7 +10,7 @@ use Rattle.amounts.specs.declared.trades.Side.{Side}
 use Rattle.amounts.specs.declared.trades.Side.TheVariants.{Bought, Sold}
 use Rattle.amounts.specs.declared.trades.Trade.{Trade}
 use Rattle.amounts.specs.Sums.{total}
-use Rattle.amounts.specs.Trades.{party_of, lots_of, contracts_of, position_change}
+use Rattle.amounts.specs.Trades.{party_of, contracts_on, contracts_of, position_change}
 use Rattle.amounts.specs.Amounts.{gain_of, on_trades}
 use Rattle.settlement.specs.World.{World}
 use Rattle.settlement.specs.History.{History, Amounts, Closed}
@@ -20,7 +20,7 @@ use Rattle.settlement.specs.Positions.{has_ended, contracts_in, carried_of, corr
 use Rattle.settlement.specs.Lawful.{InBook, Lawful}
 use Rattle.settlement.proofs.Dealt.{Fits, session-fits, closed-fit}
 
-pub lots-outside : (side : Side) (n k a m : ℕ) (t : Trade) → party_of side t < n → t.month < k → ((a < n) × (m < k) → ⊥) → lots_of side a m t ≡ 0
+pub lots-outside : (side : Side) (n k a m : ℕ) (t : Trade) → party_of side t < n → t.month < k → ((a < n) × (m < k) → ⊥) → contracts_on side a m t ≡ 0
 lots-outside side n k a m t p q out = grind (arith, nat_tests)
 
 -- an account or month outside has no contracts in a trade that fits

@@ -31,7 +31,7 @@ pub record Fits (n k : ℕ) (t : Trade) : Type 0 where
   pub buyer : t.buyer < n
   pub seller : t.seller < n
   pub month : t.month < k
-  pub small : t.quantity ≤ 20000
+  pub small : t.contracts ≤ 20000
 
 -- the accounts and the month of a trade are in the book
 abbrev pub FitsIn : History → Trade → Type 0

@@ -10,7 +10,7 @@ use Rattle.interest.specs.Power.{power_of, climb, root_of}
 use Rattle.interest.specs.Price.{day_factor, after_years, after_days, trade_price}
 use Rattle.interest.specs.Correction.{corrected}
 use Rattle.amounts.specs.Amounts.{gain_of, on_trades}
-use Rattle.amounts.specs.DayTrades.{units, firsts, day_trade}
+use Rattle.amounts.specs.DayTrades.{contract_prices, firsts, day_trade}
 use Rattle.settlement.specs.World.{World}
 use Rattle.settlement.specs.History.{History}
 use Rattle.settlement.specs.Observed.{accounts_of, months_of, trades_of}
@@ -22,7 +22,7 @@ use Rattle.settlement.specs.Examples.{table, rows_of, run_world, run_history, Ru
 
 -- what the proofs compute with
 unfoldable pub figures : Unit {0}
-unfolding days_by first_day month_length power_of climb root_of day_factor after_years after_days trade_price corrected gain_of on_trades units firsts
+unfolding days_by first_day month_length power_of climb root_of day_factor after_years after_days trade_price corrected gain_of on_trades contract_prices firsts
 figures = tt
 
 -- a ticket or a slip of the book

@@ -20,17 +20,17 @@ cond-within b p k = cond_both b (pos 0) p Within (λ _. omega (arith, ints)) (λ
 
 -- a trade: its buyer and its seller stay within, and nobody else has contracts of it
 trade-within : (held : ℕ → ℕ → ℤ) (a m : ℕ) (t : Trade) → (t.buyer ≡ t.seller → ⊥)
-    → Within (held t.buyer t.month -ℤ pos t.quantity) → Within (held t.seller t.month +ℤ pos t.quantity)
+    → Within (held t.buyer t.month -ℤ pos t.contracts) → Within (held t.seller t.month +ℤ pos t.contracts)
     → Within (held a m) → Within (held a m +ℤ contracts_of a m t)
 trade-within held a m t apart buys sells k = by (eqb t.month m) (eqb t.seller a) (eqb t.buyer a) refl refl refl
   where
     by : (x y z : Bool) → eqb t.month m ≡ x → eqb t.seller a ≡ y → eqb t.buyer a ≡ z
-        → Within (held a m +ℤ (pos (cond (x && y) t.quantity 0) -ℤ pos (cond (x && z) t.quantity 0)))
+        → Within (held a m +ℤ (pos (cond (x && y) t.contracts 0) -ℤ pos (cond (x && z) t.contracts 0)))
     by true true false e f g =
-        let s : Within (held a m +ℤ pos t.quantity) = rw (eqb-true t.month m e, eqb-true t.seller a f) at sells in
+        let s : Within (held a m +ℤ pos t.contracts) = rw (eqb-true t.month m e, eqb-true t.seller a f) at sells in
         omega (arith, ints)
     by true false true e f g =
-        let b : Within (held a m -ℤ pos t.quantity) = rw (eqb-true t.month m e, eqb-true t.buyer a g) at buys in
+        let b : Within (held a m -ℤ pos t.contracts) = rw (eqb-true t.month m e, eqb-true t.buyer a g) at buys in
         omega (arith, ints)
     by true true true e f g = absurd (apart (eqb-true t.buyer a g ∙ sym (eqb-true t.seller a f)))
     by x y z e f g = omega (arith, ints)

@@ -66,7 +66,7 @@ module _ (w : World) (h : History) (d : ℕ) (lawful : Lawful w h) (session : op
   in-range = record {
     trades = record {
       few = trades-few w h lawful;
-      small = All-weaker (FitsIn h) (λ t. t.quantity ≤ 20000) (λ t f. f.small) (trades_of h) (session-fits w h lawful);
+      small = All-weaker (FitsIn h) (λ t. t.contracts ≤ 20000) (λ t f. f.small) (trades_of h) (session-fits w h lawful);
     };
     held = let l = carried-limited w h lawful a m in rw carried-seen l;
   }

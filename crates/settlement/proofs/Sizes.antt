@@ -37,7 +37,7 @@ tables-limited w h l = (accounts-few w h l, months-few w h l)
 latest-limited : (w : World) (h : History) → Lawful w h → Limited (trades_of h)
 latest-limited w h l = record {
   few = trades-few w h l;
-  small = All-weaker (FitsIn h) (λ t. t.quantity ≤ 20000) (λ t f. f.small) (trades_of h) (session-fits w h l);
+  small = All-weaker (FitsIn h) (λ t. t.contracts ≤ 20000) (λ t f. f.small) (trades_of h) (session-fits w h l);
 }
 
 closed-limited : (w : World) (h : History) → Lawful w h → AllByRecursion (λ s. Limited s.trades) (sessions_of w h)

@@ -40,20 +40,20 @@ gain-most z a b k h l =
 
 -- a small trade, whose month stands at most once in a list
 record Small (ms : List ℕ) (t : Trade) : Type 0 where
-  quantity : t.quantity ≤ 20000
+  quantity : t.contracts ≤ 20000
   price : t.price ≤ 10000000
   once : count_by (eqb t.month) ms ≤ 1
 
 module _ (a : ℕ) (price : ℕ → ℕ) (low : (m : ℕ) → price m ≤ 10000000) where
   -- an account has contracts in the trade's month alone
-  contracts-most : (t : Trade) → t.quantity ≤ 20000 → (m : ℕ) → nat_abs (contracts_of a m t) ≤ cond (eqb t.month m) 1 0 * 20000
+  contracts-most : (t : Trade) → t.contracts ≤ 20000 → (m : ℕ) → nat_abs (contracts_of a m t) ≤ cond (eqb t.month m) 1 0 * 20000
   contracts-most t q m = by (eqb t.month m) refl
     where
       by : (b : Bool) → eqb t.month m ≡ b → nat_abs (contracts_of a m t) ≤ cond b 1 0 * 20000
       by true e = omega (arith, contracts-size a m t)
       by false e = rw e (omega (arith, ints))
 
-  trade-most : (t : Trade) → t.quantity ≤ 20000 → t.price ≤ 10000000 → (ms : List ℕ)
+  trade-most : (t : Trade) → t.contracts ≤ 20000 → t.price ≤ 10000000 → (ms : List ℕ)
       → nat_abs (total (λ m. gain_of (contracts_of a m t) (price m) t.price) ms) ≤ count_by (eqb t.month) ms * 200000000000
   trade-most t q p [] = omega arith
   trade-most t q p (m ∷ ms) =

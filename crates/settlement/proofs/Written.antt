@@ -6,7 +6,7 @@ use Rattle.std.proofs.lemmas.Bool.{true≢false, cases_lt, and_from, agree_below
 use Rattle.amounts.specs.declared.trades.Side.{Side}
 use Rattle.amounts.specs.declared.trades.Side.TheVariants.{Bought, Sold}
 use Rattle.amounts.specs.declared.trades.Trade.{Trade}
-use Rattle.amounts.specs.DayTrades.{units, firsts, day_trade}
+use Rattle.amounts.specs.DayTrades.{contract_prices, firsts, day_trade}
 use Rattle.amounts.specs.Trades.{party_of}
 use Rattle.settlement.specs.Accounts.{account_indices, month_indices, is_among}
 use Rattle.settlement.specs.World.{World}
@@ -25,8 +25,8 @@ module _ (n k a m : ℕ) (out : (a < n) × (m < k) → ⊥) where
   party-fits Sold t f = f.buyer
 
   -- an account or month outside has no contracts on a side
-  units-outside : (side : Side) (ts : List Trade) → AllByRecursion (Fits n k) ts → units side a m ts ≡ []
-  unfolding units
+  units-outside : (side : Side) (ts : List Trade) → AllByRecursion (Fits n k) ts → contract_prices side a m ts ≡ []
+  unfolding contract_prices
   units-outside side [] f = refl
   units-outside side (t ∷ ts) f =
       rw (lots-outside side n k a m t (party-fits side t f.0) f.0.month out, units-outside side ts f.1) refl

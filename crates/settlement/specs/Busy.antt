@@ -42,8 +42,8 @@ busy_history =
     ∷ Paid
     ∷ Marked 1 9994500
     ∷ Marked 0 9884800
-    ∷ Traded (record { buyer = 1; seller = 2; month = 1; rate = 14851; quantity = 3; price = 9994507 })
-    ∷ Traded (record { buyer = 2; seller = 0; month = 0; rate = 14880; quantity = 5; price = 9885068 })
+    ∷ Traded (record { buyer = 1; seller = 2; month = 1; rate = 14851; contracts = 3; price = 9994507 })
+    ∷ Traded (record { buyer = 2; seller = 0; month = 0; rate = 14880; contracts = 5; price = 9885068 })
     ∷ Listed 324
     ∷ Opened 9861
     ∷ Entered (client 12)
@@ -53,8 +53,8 @@ busy_history =
     })
     ∷ Published 9860 14900000
     ∷ Marked 0 9879300
-    ∷ Traded (record { buyer = 1; seller = 0; month = 0; rate = 14950; quantity = 4; price = 9879102 })
-    ∷ Traded (record { buyer = 0; seller = 1; month = 0; rate = 14903; quantity = 10; price = 9879455 })
+    ∷ Traded (record { buyer = 1; seller = 0; month = 0; rate = 14950; contracts = 4; price = 9879102 })
+    ∷ Traded (record { buyer = 0; seller = 1; month = 0; rate = 14903; contracts = 10; price = 9879455 })
     ∷ Opened 9860
     ∷ Listed 325
     ∷ Entered (client 11)
@@ -76,9 +76,9 @@ order_history =
     })
     ∷ Marked 0 9879300
     ∷ Marked 0 9879000
-    ∷ Traded (record { buyer = 0; seller = 1; month = 0; rate = 14950; quantity = 2; price = 9879102 })
-    ∷ Traded (record { buyer = 1; seller = 0; month = 0; rate = 14950; quantity = 4; price = 9879102 })
-    ∷ Traded (record { buyer = 0; seller = 1; month = 0; rate = 14903; quantity = 10; price = 9879455 })
+    ∷ Traded (record { buyer = 0; seller = 1; month = 0; rate = 14950; contracts = 2; price = 9879102 })
+    ∷ Traded (record { buyer = 1; seller = 0; month = 0; rate = 14950; contracts = 4; price = 9879102 })
+    ∷ Traded (record { buyer = 0; seller = 1; month = 0; rate = 14903; contracts = 10; price = 9879455 })
     ∷ Opened 9860
     ∷ Listed 325
     ∷ Entered (client 11)

@@ -54,13 +54,13 @@ of_day day = record { number = 1; day = day }
 abbrev pub of_another_book : ℕ → Paper
 of_another_book day = record { number = 2; day = day }
 
--- a trade in month 1: buyer and seller in rate, rate, quantity; no row looks at its price
+-- a trade in month 1: buyer and seller in rate, rate, contracts; no row looks at its price
 abbrev pub trade_between : ℕ → ℕ → ℕ → ℕ → Trade
-trade_between buyer seller rate quantity = record { buyer = buyer; seller = seller; month = 1; rate = rate; quantity = quantity; price = 0 }
+trade_between buyer seller rate contracts = record { buyer = buyer; seller = seller; month = 1; rate = rate; contracts = contracts; price = 0 }
 
 -- so many trades, in which account 0 buys in rate from account 1
 abbrev pub dealt : ℕ → ℕ → History
-dealt n quantity = replicate n (Traded (trade_between 0 1 10000 quantity))
+dealt n contracts = replicate n (Traded (trade_between 0 1 10000 contracts))
 
 -- the rows of a trade at this rate in this month, in the session of 9,860
 abbrev pub rows_at_rate : ℕ → ℕ → List Row
@@ -163,7 +163,7 @@ trade_edges =
     ∷ (rows_after [] (trade_between 2 0 10000 1), None)
     ∷ (rows_after [] (trade_between 3 0 10000 1), Some NoSuchIndex)
     ∷ (rows_after [] (trade_between 0 3 10000 1), Some NoSuchIndex)
-    ∷ (rows_after [] (record { buyer = 0; seller = 1; month = 2; rate = 10000; quantity = 1; price = 0 }), Some NoSuchIndex)
+    ∷ (rows_after [] (record { buyer = 0; seller = 1; month = 2; rate = 10000; contracts = 1; price = 0 }), Some NoSuchIndex)
     -- January 2027, which expires on 9,862
     ∷ (trade_rows weekdays (session_with 9861 324) (of_day 9861) (trade_between 0 1 10000 1), None)
     ∷ (trade_rows weekdays (session_with 9862 324) (of_day 9862) (trade_between 0 1 10000 1), Some Expired)
@@ -192,7 +192,7 @@ trade_edges =
     ∷ (rows_after (dealt 25 20000) (trade_between 0 2 10000 1), Some PositionLimit)
     ∷ (rows_after (dealt 25 20000) (trade_between 2 1 10000 1), Some PositionLimit)
     ∷ (rows_after (dealt 25 20000) (trade_between 1 0 10000 1), None)
-    ∷ (rows_after (dealt 25 20000) (record { buyer = 0; seller = 2; month = 0; rate = 10000; quantity = 1; price = 0 }), None)
+    ∷ (rows_after (dealt 25 20000) (record { buyer = 0; seller = 2; month = 0; rate = 10000; contracts = 1; price = 0 }), None)
     -- trades of the session
     ∷ (rows_after (dealt 255 1) (trade_between 0 1 10000 1), None)
     ∷ (rows_after (dealt 256 1) (trade_between 0 1 10000 1), Some SessionFull)
@@ -300,7 +300,7 @@ pub record EdgesHold : Type 0 where
   pub months : months_of two_months ≡ 325 ∷ 326 ∷ []
   -- a line of a sheet as a trade, in March 2027, 43 reserve days on, and in a month that is not listed
   pub line : line_trade weekdays two_months (record { buyer = 2; seller = 1; month = 326; rate = 10000; quantity = 7 })
-      ≡ record { buyer = 2; seller = 1; month = 1; rate = 10000; quantity = 7; price = 9838683 }
+      ≡ record { buyer = 2; seller = 1; month = 1; rate = 10000; contracts = 7; price = 9838683 }
   pub unlisted_line : (line_trade weekdays two_months (record { buyer = 2; seller = 1; month = 327; rate = 10000; quantity = 7 })).month ≡ 2
   -- the paper comes back with the refusal
   pub ticket_back : close_refused weekdays two_months (of_another_book 9860) 6 6 ≡ Some (NotCurrent, of_another_book 9860)

@@ -34,7 +34,7 @@ client number = record { client = number; participant = 1; member = 1 }
 
 -- account 0 buys in rate from account 1, in month 0
 abbrev pub deal : ℕ → ℕ → ℕ → Trade
-deal rate quantity price = record { buyer = 0; seller = 1; month = 0; rate = rate; quantity = quantity; price = price }
+deal rate contracts price = record { buyer = 0; seller = 1; month = 0; rate = rate; contracts = contracts; price = price }
 
 -- amounts by rows, one for each account, with a column for each month; 0 outside
 abbrev pub table : List (List ℤ) → ℕ → ℕ → ℤ

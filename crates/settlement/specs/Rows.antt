@@ -89,10 +89,10 @@ trade_rows w h ticket t =
     ∷ (not (is_account h t.buyer && (is_account h t.seller && is_listed h t.month)), NoSuchIndex)
     ∷ expired_row w h t.month
     ∷ ((t.buyer == t.seller), SameSides)
-    ∷ (t.quantity == 0 || nat_lt 20000 t.quantity, BadQuantity)
+    ∷ (t.contracts == 0 || nat_lt 20000 t.contracts, BadQuantity)
     ∷ (nat_lt 99999 t.rate || not (on_tick t.rate (distance (session_day h) (month_at h t.month))), BadRate)
     ∷ (nat_lt 2520 (days_to w.kinds (session_day h) (month_at h t.month)), TooFar)
-    ∷ (is_over (position_of w h t.buyer t.month -ℤ pos t.quantity) || is_over (position_of w h t.seller t.month +ℤ pos t.quantity), PositionLimit)
+    ∷ (is_over (position_of w h t.buyer t.month -ℤ pos t.contracts) || is_over (position_of w h t.seller t.month +ℤ pos t.contracts), PositionLimit)
     ∷ (nat_le 256 (length (trades_of h)), SessionFull)
     ∷ []
 

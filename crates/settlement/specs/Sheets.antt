@@ -54,7 +54,7 @@ line_trade w h t = record {
   seller = t.seller;
   month = place_in (months_of h) t.month;
   rate = t.rate;
-  quantity = t.quantity;
+  contracts = t.quantity;
   price = trade_price t.rate (days_to w.kinds (session_day h) t.month);
 }
 

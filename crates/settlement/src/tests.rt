@@ -25,7 +25,7 @@ fn a_month_to_its_end(rt: HostRuntime) -> Result<(), Fail> {
         seller: 1,
         month: 0,
         rate: 10_000,
-        quantity: 10,
+        contracts: 10,
         price: 9_992_439,
     }];
     let missing = Unsettled::NotCorrected(Uncorrected::MissingRate(9_865));
