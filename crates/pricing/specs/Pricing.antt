@@ -1,5 +1,5 @@
 -- The price of a trade on a calendar, and the causes for which it has none.
-use Rattle.std.specs.Prelude.{ℕ, ◌-◌, Bool, cond, not, List, [], ◌∷◌, codes, length, is_some, Option, nat_le, nat_lt}
+use Rattle.std.specs.Prelude.{ℕ, ◌-◌, Bool, not, List, [], ◌∷◌, codes, length, is_some, Option, nat_le, nat_lt}
 use Rattle.std.specs.Option.{unwrap_or}
 use Rattle.dates.specs.Months.{month_of}
 use Rattle.calendar.specs.declared.kind.DayKind.{DayKind}
