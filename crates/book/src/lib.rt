@@ -1,6 +1,7 @@
 // A position book over any calendar and any source of rates.
 #![tactic(auto)]
 
+mod closing;
 mod ledger;
 mod position_book;
 mod references;

@@ -23,9 +23,9 @@ use refusal::Refusal;
 /// A position book: one calendar and one source of rates, of any make, and the tables.
 #[derive(Drop)]
 pub struct Book<C, S> {
-    calendar: C,
-    source: S,
-    ledger: Ledger,
+    pub(crate) calendar: C,
+    pub(crate) source: S,
+    pub(crate) ledger: Ledger,
 }
 
 /// What is meant by keeping a world and a history. No code is behind it.
