@@ -5,3 +5,4 @@ pub mod Changes
 pub mod Keeps
 pub mod Calls
 pub mod Returned
+pub mod Closes

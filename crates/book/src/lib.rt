@@ -2,6 +2,7 @@
 #![tactic(auto)]
 
 mod closing;
+mod gap;
 mod ledger;
 mod position_book;
 mod references;
