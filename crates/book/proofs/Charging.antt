@@ -1,5 +1,5 @@
 -- What is due and what is held after a close.
-use Rattle.std.proofs.Common.{◌≡◌, ℕ, zero, suc, ◌+◌, ◌<◌, List, [], ◌∷◌, ◌++◌, length, take, drop, get_or, slice_set, ℤ, ◌+ℤ◌, pos, refl, sym, ap, ◌∙◌, add-one, arith}
+use Rattle.std.proofs.Common.{◌≡◌, ℕ, zero, suc, ◌+◌, ◌<◌, List, [], ◌∷◌, ◌++◌, length, map, take, drop, Some, slice_get, get_or, slice_set, ℤ, ◌+ℤ◌, pos, refl, sym, ap, ◌∙◌, add-one, arith}
 use borrow.Author.Differences.{ints}
 use Rattle.std.specs.Int.{int_wrap, w64}
 use Rattle.std.proofs.lemmas.Int.{int_wrap-add_left}
@@ -33,3 +33,19 @@ module _ {X : Type 0} (change : ℕ → X → X) where
   pub length-each : (xs : List X) (b : ℕ) → length (changed_each change b xs) ≡ length xs
   length-each [] b = refl
   length-each (x ∷ xs) b = ap (λ n. suc n) (length-each xs (b + 1))
+
+  -- what the change leaves alone
+  pub map-each : {Y : Type 0} (f : X → Y) → ((i : ℕ) (x : X) → f (change i x) ≡ f x) → (xs : List X) (b : ℕ) → map f (changed_each change b xs) ≡ map f xs
+  map-each f same [] b = refl
+  map-each f same (x ∷ xs) b = rw (same b x, map-each f same xs (b + 1)) refl
+
+  -- what stands somewhere stood there before the change
+  pub get_each : (xs : List X) (b i j : ℕ) (y : X) → b + i ≡ j → slice_get (changed_each change b xs) i ≡ Some y → (x : X) × (slice_get xs i ≡ Some x) × (y ≡ change j x)
+  get_each [] b i j y is at = absurd cc
+  get_each (x ∷ xs) b zero j y is at = (x, refl, let e : b ≡ j = omega arith in rw (← e) cc)
+  get_each (x ∷ xs) b (suc i) j y is at = get_each xs (b + 1) i j y (omega arith) at
+
+  pub get_or-each : (xs : List X) (b i j : ℕ) (d : X) → b + i ≡ j → i < length xs → get_or (changed_each change b xs) i d ≡ change j (get_or xs i d)
+  get_or-each [] b i j d is inside = absurd (omega arith)
+  get_or-each (x ∷ xs) b zero j d is inside = ap (λ n. change n x) (let e : b ≡ j = omega arith in e)
+  get_or-each (x ∷ xs) b (suc i) j d is inside = get_or-each xs (b + 1) i j d (omega arith) (omega arith)

@@ -1,5 +1,5 @@
 -- The latest prices corrected over the gap, one day after another.
-use Rattle.std.proofs.Common.{◌≡◌, ℕ, ◌+◌, ◌*◌, ◌<◌, ◌≤◌, min, true, false, cond, not, List, [], ◌∷◌, ◌++◌, map, is_some, Some, None, filter, Option, refl, sym, ap, ◌∙◌, inl, inr, mul-le-mul_right, arith}
+use Rattle.std.proofs.Common.{◌≡◌, ℕ, ◌+◌, ◌*◌, ◌<◌, ◌≤◌, true, false, cond, not, List, [], ◌∷◌, ◌++◌, map, is_some, Some, None, filter, Option, refl, sym, ap, ◌∙◌, inl, inr, mul-le-mul_right, arith}
 use Rattle.std.specs.Option.{unwrap_or}
 use Rattle.std.proofs.lemmas.Bool.{cases_lt}
 use Rattle.std.proofs.lemmas.List.Elements.{filter-append}

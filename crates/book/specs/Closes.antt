@@ -1,5 +1,5 @@
 -- What a close looks at, writes and leaves, as the tables tell it.
-use Rattle.std.specs.Prelude.{ℕ, ◌+◌, ◌*◌, ◌%◌, min, Bool, false, cond, not, ◌&&◌, ◌||◌, List, [], ◌∷◌, map, take, drop, length, ℤ, pos, ◌+ℤ◌, is_some, Option, nat_le, nat_lt, slice_get}
+use Rattle.std.specs.Prelude.{ℕ, ◌+◌, ◌*◌, ◌%◌, min, Bool, false, cond, not, ◌&&◌, ◌||◌, List, [], ◌∷◌, ◌++◌, take, drop, length, ℤ, pos, ◌+ℤ◌, is_some, Option, nat_le, nat_lt, slice_get}
 use Rattle.std.specs.Int.{int_wrap, w64}
 use Rattle.std.specs.List.{position}
 use Rattle.std.specs.Option.{unwrap_or, option_map}
@@ -39,13 +39,7 @@ room_row_in t adjustments day_trades =
 
 -- to close it into arrays of these lengths, where this is the first reserve day of the gap without a rate
 abbrev pub close_rows_in : Tables → SessionReference → Option ℕ → ℕ → ℕ → List Row
-close_rows_in t ticket missing adjustments day_trades =
-    (not (is_of t.number ticket t.session.opens), numbered 1)
-    ∷ (is_some t.session.unpaid, numbered 13)
-    ∷ naming 14 (position (lacks_mark (day_in t)) t.months)
-    ∷ naming 15 missing
-    ∷ room_row_in t adjustments day_trades
-    ∷ []
+close_rows_in t ticket missing adjustments day_trades = session_rows_in t ticket ++ (naming 15 missing ∷ room_row_in t adjustments day_trades ∷ [])
 
 -- ---- prices
 

@@ -1,4 +1,4 @@
-use Rattle.std.proofs.Common.{◌≡◌, ap, sym, ◌∙◌}
+use Rattle.std.proofs.Common.{ap, sym, ◌∙◌}
 use Rattle.std.specs.Option.{unwrap_or}
 use Rattle.calendar.specs.Kinds.{is_reserve}
 use Rattle.book.proofs.Correcting.{walk-start, walk-past, walk-over, walk-missing, walk-end, gap-is}
