@@ -11,7 +11,7 @@ use crate::trades::{MAX_CONTRACTS, MAX_POSITION, MAX_TRADES, Trade};
 
 /// The prices of a month at a close, in centavos: the settlement price, and the latest one before
 /// it, corrected to the session.
-#[derive(Clone, Copy)]
+#[derive(Clone, Copy, Default)]
 pub struct MonthPrices {
     pub settlement: u32,
     pub corrected: u32,
