@@ -2,6 +2,7 @@
 
 pub(crate) mod accounts;
 
+pub(crate) mod closes;
 pub(crate) mod months;
 pub(crate) mod trades;
 

@@ -2,6 +2,8 @@
 #![tactic(auto)]
 
 mod import;
+mod closing;
+mod gap;
 mod ledger;
 mod position_book;
 mod references;

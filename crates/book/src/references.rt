@@ -94,6 +94,7 @@ pub struct PayRefused {
 }
 
 /// Why a close is refused, with the ticket.
+#[derive(Drop)]
 pub struct CloseRefused {
     pub refusal: Refusal,
     pub ticket: Ticket,
