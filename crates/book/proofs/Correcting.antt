@@ -13,7 +13,7 @@ use Rattle.correction.specs.Gaps.{factor_on, factors, is_unrated, first_unrated}
 use Rattle.interest.specs.Correction.{corrected, corrected_day}
 use Rattle.interest.specs.Price.{day_factor}
 use Rattle.interest.proofs.Bounds.{day-factor-least}
-use Rattle.interest.proofs.Carried.{corrected-none, corrected-more}
+use Rattle.interest.proofs.Corrections.{corrected-none, corrected-more}
 use Rattle.model.specs.Sessions.{gap_since}
 use Rattle.book.specs.declared.ledger.MonthRow.{MonthRow}
 use Rattle.book.specs.Closes.{saturated, prices_over, prices_before, prices_after}

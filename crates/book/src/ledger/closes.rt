@@ -2,7 +2,7 @@
 ghost use Rattle.std.specs.Prelude.{◌≡◌, ◌*◌, ◌≤◌, [], ◌∷◌, cond, OnOk, length, map, pos};
 ghost use Rattle.std.specs.Int.{int_wrap, w64};
 ghost use Rattle.std.specs.List.{position};
-ghost use Rattle.amounts.specs.Closes.{adjustment_in, FitsWithinLimit};
+ghost use Rattle.amounts.specs.Closes.{adjustment_in};
 ghost use Rattle.amounts.specs.DayTrades.{day_trade};
 ghost use Rattle.amounts.specs.Rows.{HasRoom, written_to};
 ghost use Rattle.amounts.specs.Sums.{total};
@@ -174,8 +174,7 @@ impl Ledger {
         requires adjustments_long { HasRoom (length self.old.accounts) (length self.old.months) (length adjustments.old) }
         requires day_trades_long { HasRoom (length self.old.accounts) (length self.old.months) (length day_trades.old) }
         ensures slip { result ≡ record { number = self.old.number; day = day_in self.old } }
-        ensures adjusted { adjustments.new ≡ written_to (length self.old.accounts) (length self.old.months) (λ a m. int_wrap w64 (adjustment_in self.old.session.trades prices.now self.old.positions a m)) adjustments.old }
-        ensures exact { FitsWithinLimit self.old.session.trades prices.now self.old.positions }
+        ensures adjusted { adjustments.new ≡ written_to (length self.old.accounts) (length self.old.months) (adjustment_in self.old.session.trades prices.now self.old.positions) adjustments.old }
         ensures day_traded { day_trades.new ≡ written_to (length self.old.accounts) (length self.old.months) (λ a m. day_trade a m self.old.session.trades) day_trades.old }
         ensures tables { self.new ≡ after_close (day_in self.old) (charged_by (length self.old.months) adjustments.new self.old.accounts) (expired_by (day_in self.old) self.old.months self.old.positions) self.old }
     {

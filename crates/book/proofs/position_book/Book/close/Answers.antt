@@ -34,7 +34,7 @@ returns-in-Ok-clause-closes g c =
     let calendar = sym k.calendar in
     let source = sym k.source in
     let prices = c.deref.ensures.0 ∙ c.in-Ok.ensures.value ∙ (λ i. map (prices_over (rates_of (source i)) (day_in t) (gap_in (calendar i) t)) t.months) in
-    let adjusted = c.close.ensures.adjusted ∙ adjusted-told w h t bounded k.lawful k.tables _ session.day c.args.adjustments.now prices c.close.ensures.exact session.session.is_open in
+    let adjusted = c.close.ensures.adjusted ∙ adjusted-told w h t bounded k.lawful k.tables _ session.day c.args.adjustments.now prices session.session.is_open in
     record {
       value = (
         (let number = k.tables.number in let day = day-told w h t k.tables in λ i. record { number = number i; day = sym day i }),
