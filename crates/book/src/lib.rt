@@ -9,3 +9,6 @@ mod references;
 
 pub use position_book::{Book, Kept};
 pub use references::{CloseRefused, PayRefused, Slip, Ticket};
+
+#[cfg(test)]
+mod tests;
