@@ -11,3 +11,6 @@ mod references;
 pub use import::{ImportOutcome, ImportStop};
 pub use position_book::{Book, Kept};
 pub use references::{CloseRefused, PayRefused, Slip, Ticket};
+
+#[cfg(test)]
+mod tests;

@@ -17,7 +17,7 @@ pub returns-in-Err-clause-closes : goal.returns-in-Err-clause-closes
 returns-in-Err-clause-closes g c =
     refused-call _ _ _ _ _ _ c.args.self.now _
     (λ w h k. close-first w h c.args.ticket c.args.self.now.ledger (length c.args.adjustments.now) (length c.args.day_trades.now) _ _ k.calendar k.source k.tables)
-    (record { refusal = c.in-Err.refusal; ticket = c.args.ticket }) _ refl c.in-Err.ensures.answers
+    _ _ refl c.in-Err.ensures.answers
 
 pub returns-in-Ok-clause-closes : goal.returns-in-Ok-clause-closes
 returns-in-Ok-clause-closes g c =
