@@ -2,8 +2,9 @@
 use crate::failure::{Complaint, Failure, Source, in_words, or_no_such};
 use crate::figures::{Counted, Fixed, RATE_PLACES, day_of, decimal, number};
 use crate::texts::{Line, lines_of, read_from};
+use amounts::MAX_TRADES;
 use dates::Day;
-use sheet::{ContractCode, MAX_TRADES, SheetFault, SheetView, TradeLine, read, write};
+use sheet::{ContractCode, SheetFault, SheetView, TradeLine, read, write};
 use std::alloc::{AllocError, Global};
 use std::{fmt, fs};
 
@@ -152,7 +153,7 @@ fn later_line<'a>(before: usize, words: &[&'a str]) -> Result<TradeLine, Complai
         }
         [] => return Err(Complaint::Words("no word")),
     };
-    if before >= MAX_TRADES as usize {
+    if before >= MAX_TRADES {
         return Err(Complaint::Words("over 256 trades"));
     }
     Ok(trade)
