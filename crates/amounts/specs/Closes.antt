@@ -1,9 +1,9 @@
 -- The adjustments of a close, on the prices of the months and the positions that it is given.
-use Rattle.std.specs.Prelude.{◌≤◌, ◌*◌, ℕ, cond, nat_le, List, ℤ, pos, ◌+ℤ◌, ◌-ℤ◌, ◌*ℤ◌, unsigned_abs}
+use Rattle.std.specs.Prelude.{◌≤◌, ◌*◌, ◌^◌, ℕ, cond, nat_le, List, ℤ, pos, ◌+ℤ◌, ◌-ℤ◌, ◌*ℤ◌, unsigned_abs}
 use Rattle.std.specs.List.{slice_index_or}
 use Rattle.amounts.specs.declared.adjustments.MonthPrices.{MonthPrices}
 use Rattle.amounts.specs.declared.sums.SideSum.{SideSum}
-use Rattle.amounts.specs.declared.trades.TheConstants.{MAX_POSITION}
+use Rattle.amounts.specs.declared.trades.TheConstants.{MAX_TRADES, MAX_CONTRACTS, MAX_POSITION}
 use Rattle.amounts.specs.declared.trades.Trade.{Trade}
 use Rattle.amounts.specs.Amounts.{gain_of, adjustment_of, carried_in}
 use Rattle.amounts.specs.Tables.{place_of}
@@ -29,10 +29,10 @@ abbrev pub adjustment_in : List Trade → List MonthPrices → List ℤ → ℕ 
 adjustment_in ts prices positions account month =
     adjustment_of account month (prices_of prices month).settlement ts (carried_in account month ts (position_in positions account month)) (prices_of prices month).corrected
 
--- sums of at most 256 trades of 20,000 contracts
+-- sums of a session's trades, at prices of 32 bits
 pub record IsBounded (x : SideSum) : Type 0 where
-  pub contracts : x.contracts ≤ 5120000
-  pub value : x.value ≤ 5120000 * 4294967296
+  pub contracts : x.contracts ≤ MAX_TRADES * MAX_CONTRACTS
+  pub value : x.value ≤ MAX_TRADES * MAX_CONTRACTS * 2 ^ 32
 
 -- contracts bought less contracts sold
 abbrev pub change_on : SideSum → SideSum → ℤ

@@ -1,5 +1,5 @@
 // The adjustments of a session, from its running sums.
-ghost use Rattle.std.specs.Prelude.{◌≡◌, ◌≤◌, ◌*◌, pos, ◌-ℤ◌, ◌*ℤ◌, unsigned_abs};
+ghost use Rattle.std.specs.Prelude.{◌≡◌, ◌≤◌, ◌+◌, ◌*◌, ◌^◌, pos, ◌-ℤ◌, ◌*ℤ◌, unsigned_abs};
 ghost use Rattle.std.proofs.Props.{props};
 ghost use Rattle.amounts.specs.Amounts.{gain_of};
 ghost use Rattle.amounts.specs.Closes.{prices_of, within_limit, position_in, IsBounded, change_on, on_sums, adjustment_on};
@@ -7,11 +7,11 @@ ghost use Rattle.amounts.specs.SideSums.{AreSums};
 
 use crate::rows::Amounts;
 use crate::sums::{SideSum, Sums, place};
-use crate::trades::{MAX_POSITION, Trade};
+use crate::trades::{MAX_CONTRACTS, MAX_POSITION, MAX_TRADES, Trade};
 
 /// The prices of a month at a close, in centavos: the settlement price, and the latest one before
 /// it, corrected to the session.
-#[derive(Clone, Copy)]
+#[derive(Clone, Copy, Default)]
 pub struct MonthPrices {
     pub settlement: u32,
     pub corrected: u32,
@@ -28,7 +28,7 @@ fn change(bought: SideSum, sold: SideSum) -> i64
     requires bought { IsBounded bought }
     requires sold { IsBounded sold }
     ensures value { result ≡ change_on bought sold }
-    ensures most { unsigned_abs result ≤ 5120000 }
+    ensures most { unsigned_abs result ≤ MAX_TRADES * MAX_CONTRACTS }
 {
     bought.contracts as i64 - sold.contracts as i64
 }
@@ -38,25 +38,25 @@ fn cost(bought: SideSum, sold: SideSum) -> i64
     requires bought { IsBounded bought }
     requires sold { IsBounded sold }
     ensures value { result ≡ pos bought.value -ℤ pos sold.value }
-    ensures most { unsigned_abs result ≤ 5120000 * 4294967296 }
+    ensures most { unsigned_abs result ≤ MAX_TRADES * MAX_CONTRACTS * 2 ^ 32 }
 {
     bought.value as i64 - sold.value as i64
 }
 
 // What contracts come to at a price.
 fn at_price(contracts: i64, price: u32) -> i64
-    requires { unsigned_abs contracts ≤ 5120000 }
+    requires { unsigned_abs contracts ≤ MAX_TRADES * MAX_CONTRACTS }
     ensures value { result ≡ contracts *ℤ pos price }
-    ensures most { unsigned_abs result ≤ 5120000 * 4294967296 }
+    ensures most { unsigned_abs result ≤ MAX_TRADES * MAX_CONTRACTS * 2 ^ 32 }
 {
     contracts * price as i64
 }
 
 // What contracts gain from one price to another.
 fn gain(contracts: i64, price: u32, before: u32) -> i64
-    requires { unsigned_abs contracts ≤ 5620000 }
+    requires { unsigned_abs contracts ≤ MAX_POSITION + MAX_TRADES * MAX_CONTRACTS }
     ensures value { result ≡ gain_of contracts price before }
-    ensures most { unsigned_abs result ≤ 5620000 * 4294967296 }
+    ensures most { unsigned_abs result ≤ (MAX_POSITION + MAX_TRADES * MAX_CONTRACTS) * 2 ^ 32 }
 {
     contracts * (price as i64 - before as i64)
 }
@@ -66,7 +66,7 @@ fn on_trades(bought: SideSum, sold: SideSum, settlement: u32) -> i64
     requires bought { IsBounded bought }
     requires sold { IsBounded sold }
     ensures value { result ≡ on_sums bought sold settlement }
-    ensures most { unsigned_abs result ≤ 10240000 * 4294967296 }
+    ensures most { unsigned_abs result ≤ 2 * (MAX_TRADES * MAX_CONTRACTS) * 2 ^ 32 }
 {
     at_price(change(bought, sold), settlement) - cost(bought, sold)
 }
@@ -77,7 +77,7 @@ fn carried(bought: SideSum, sold: SideSum, position: i32) -> i64
     requires sold { IsBounded sold }
     requires position { unsigned_abs position ≤ MAX_POSITION }
     ensures value { result ≡ position -ℤ change_on bought sold }
-    ensures most { unsigned_abs result ≤ 5620000 }
+    ensures most { unsigned_abs result ≤ MAX_POSITION + MAX_TRADES * MAX_CONTRACTS }
 {
     position as i64 - change(bought, sold)
 }
@@ -88,7 +88,7 @@ fn on_carried(bought: SideSum, sold: SideSum, position: i32, prices: MonthPrices
     requires sold { IsBounded sold }
     requires position { unsigned_abs position ≤ MAX_POSITION }
     ensures value { result ≡ gain_of (position -ℤ change_on bought sold) prices.settlement prices.corrected }
-    ensures most { unsigned_abs result ≤ 5620000 * 4294967296 }
+    ensures most { unsigned_abs result ≤ (MAX_POSITION + MAX_TRADES * MAX_CONTRACTS) * 2 ^ 32 }
 {
     let held = carried(bought, sold, position);
     gain(held, prices.settlement, prices.corrected)

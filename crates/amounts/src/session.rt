@@ -88,7 +88,7 @@ impl SessionTrades {
 
     /// Writes what a close settles, in centavos, and answers whether the arrays have room for it: the
     /// adjustments and the day-trade amounts. The row of account a starts at a × k, k being how many
-    /// months have prices.
+    /// months have prices. The positions are those at the close, each at its `place`.
     pub fn write_amounts<'b>(
         &mut self,
         accounts: usize,
@@ -100,6 +100,8 @@ impl SessionTrades {
         ensures room { IsTrue result ↔ (HasRoom accounts (length prices.now) (length adjustments.old) × HasRoom accounts (length prices.now) (length day_trades.old)) }
         ensures adjusted { adjustments.new ≡ (if result then written_to accounts (length prices.now) (adjustment_in self.old prices.now positions.now) adjustments.old else adjustments.old) }
         ensures day_traded { day_trades.new ≡ (if result then written_to accounts (length prices.now) (λ a m. day_trade a m self.old) day_trades.old else day_trades.old) }
+
+        // Whatever is written by rows stands at its place.
         ensures placed { RowsStand }
         ensures same_trades { self.new ≡ self.old }
     {

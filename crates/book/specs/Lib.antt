@@ -6,3 +6,4 @@ pub mod Keeps
 pub mod Calls
 pub mod Returned
 pub mod Imported
+pub mod Closes

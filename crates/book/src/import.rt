@@ -9,6 +9,9 @@ ghost use Rattle.model.specs.World.{World};
 ghost use Rattle.book.specs.Calls.{Called};
 ghost use Rattle.book.specs.Imported.{index_of, Came, Imported};
 
+#[cfg(test)]
+mod tests;
+
 use crate::position_book::{Book, Kept};
 use crate::references::Ticket;
 use calendar::kind::Calendar;

@@ -2,6 +2,8 @@
 #![tactic(auto)]
 
 mod import;
+mod closing;
+mod gap;
 mod ledger;
 mod position_book;
 mod references;
@@ -9,3 +11,6 @@ mod references;
 pub use import::{ImportOutcome, ImportStop};
 pub use position_book::{Book, Kept};
 pub use references::{CloseRefused, PayRefused, Slip, Ticket};
+
+#[cfg(test)]
+mod tests;

@@ -24,8 +24,8 @@ use refusal::Refusal;
 /// A position book: one calendar and one source of rates, of any make, and the tables.
 #[derive(Drop)]
 pub struct Book<C, S> {
-    calendar: C,
-    source: S,
+    pub(crate) calendar: C,
+    pub(crate) source: S,
     pub(crate) ledger: Ledger,
 }
 

@@ -9,7 +9,7 @@ use crate::kind::{Calendar, DayKind};
 use dates::{LAST_DAY, Weekday};
 use std::alloc::{AllocError, Global};
 
-/// A day whose kind the week does not decide.
+/// A day whose kind the week does not decide, and its kind.
 #[derive(Clone, Copy, PartialEq, Eq, Debug)]
 pub struct Exception {
     pub day: u32,

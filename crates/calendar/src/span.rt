@@ -1,4 +1,5 @@
-//! What every calendar decides: the expiry of a month, the reserve days of a range, the next session.
+//! What every calendar decides: the expiry of a month, the reserve days of a range, the next
+//! session.
 ghost use Rattle.std.specs.Prelude.{◌≡◌, ℕ, ◌+◌, ◌≤◌, min, length, IfSome};
 ghost use Rattle.std.specs.Option.{SomeIff};
 ghost use Rattle.dates.specs.declared.TheConstants.{LAST_MONTH};
@@ -39,7 +40,8 @@ pub fn count_reserve_days<C: Calendar>(calendar: &C, from: u32, to: u32) -> u32
 }
 
 // The first session day from `from`, included, to `to`, excluded.
-// Kept: callers add to days and compare them as numbers; a type with the bound would be taken apart at each.
+// Kept: callers add to days and compare them as numbers; a type with the bound would be taken
+// apart at each.
 fn first_session<C: Calendar>(calendar: &C, from: u32, to: u32) -> Option<u32>
     ensures value { result ≡ first_session (C.kinds calendar.now) from to }
     ensures first { IsFirstSession (C.kinds calendar.now) from to result }

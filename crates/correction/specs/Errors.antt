@@ -3,7 +3,7 @@ use Rattle.std.specs.Prelude.{ℕ, cond, List, ◌++◌, length, codes, Some, Op
 use Rattle.std.specs.Option.{option_map}
 use Rattle.calendar.specs.declared.kind.DayKind.{DayKind}
 use Rattle.calendar.specs.Spans.{reserve_days}
-use Rattle.dates.specs.Named.{day_text}
+use Rattle.dates.specs.Dates.{day_text}
 use Rattle.correction.specs.declared.error.Uncorrected.{Uncorrected}
 use Rattle.correction.specs.declared.error.Uncorrected.TheVariants.{TooLong, MissingRate}
 use Rattle.correction.specs.declared.gap.TheConstants.{MAX_GAP_DAYS}

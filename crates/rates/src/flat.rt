@@ -7,7 +7,9 @@ use crate::horizon::Horizon;
 use crate::source::RateSource;
 use interest::MAX_DI_RATE;
 
-/// A source with one rate on every day of its horizon; a rate above the highest makes every day none.
+/// A source with one rate on every day of its horizon.
+///
+/// A rate above the highest makes every day none.
 // Kept: any 32 bits are taken as a rate by the rules, so there is no Option in its place.
 #[derive(Clone, Copy, PartialEq, Eq, Debug)]
 pub struct FlatSource {

@@ -30,7 +30,7 @@ pub trait RateSource {
 
 /// A source that also takes new rates.
 pub trait Publishing: RateSource {
-    /// Gives a rate to a day that has none, for a period of so many reserve days, which has to be one.
+    /// Gives a rate to a day that has none, for a period in reserve days, which has to be one.
     fn publish(&mut self, entry: DayRate, period: u32) -> Result<(), Error>
         ensures { Publication Self.meaning self.old self.new entry period result };
 }

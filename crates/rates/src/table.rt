@@ -38,14 +38,15 @@ fn no_rates(heap: Global, count: u32) -> Result<Vec<u32>, AllocError>
 }
 
 impl TableSource {
-    /// One day for each entry from the first day on; entries past 4,294,967,295 days are not read.
+    /// One day for each entry, from the first day on. Of more than 4,294,967,295 entries only so
+    /// many are read.
     pub fn new(first: u32, entries: Vec<u32>) -> TableSource
         ensures { (result.first ≡ first) × (result.entries ≡ entries) }
     {
         TableSource { first, entries }
     }
 
-    /// So many days from the first on, none of which has a rate.
+    /// So many days from the first day on, none of which has a rate.
     pub fn empty(heap: Global, first: u32, count: u32) -> Result<TableSource, AllocError>
         ensures { IfOk result (λ s. (table_horizon s ≡ record { first = first; count = count }) × ((d : ℕ) → rates_of (table_meaning s) d ≡ None)) }
     {

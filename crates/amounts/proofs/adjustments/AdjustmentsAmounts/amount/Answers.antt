@@ -1,4 +1,4 @@
-use Rattle.std.proofs.Common.{◌≡◌, ◌∙◌, get_or, arith, rules, w32, w64, to_z, of_z}
+use Rattle.std.proofs.Common.{◌≡◌, ◌∙◌, get_or, arith, w32, w64, to_z, of_z}
 use Rattle.std.proofs.lemmas.Int.{ints}
 use Rattle.amounts.specs.Amounts.{adjustment_of, carried_in}
 use Rattle.amounts.specs.Closes.{position_in}
@@ -11,13 +11,13 @@ pub adjustment-requires-clause-bought : goal.adjustment-requires-clause-bought
 adjustment-requires-clause-bought c =
     let h = c.args.self.now.summed in
     let e = h.bought.each c.args.account c.args.month no_sum c.requires.account c.requires.month in
-    rw c.place-at.ensures (search (rules, sum-bounded))
+    rw c.place-at.ensures (sum-bounded Bought c.args.account c.args.month c.args.self.now.trades.now c.args.self.now.sums.now _ h e)
 
 pub adjustment-requires-clause-sold : goal.adjustment-requires-clause-sold
 adjustment-requires-clause-sold c =
     let h = c.args.self.now.summed in
     let e = h.sold.each c.args.account c.args.month no_sum c.requires.account c.requires.month in
-    rw c.place-at.ensures (search (rules, sum-bounded))
+    rw c.place-at.ensures (sum-bounded Sold c.args.account c.args.month c.args.self.now.trades.now c.args.self.now.sums.now _ h e)
 
 pub returns : goal.returns
 returns c =
