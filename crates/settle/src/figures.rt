@@ -95,7 +95,7 @@ pub(crate) fn decimal(text: &str, places: u32) -> Option<u32> {
 pub(crate) fn day_of<'a>(word: &'a str) -> Result<u32, Complaint<'a>>
     ensures { IfOk result (λ day. day ≤ 36524) }
 {
-    let date = or_no_such("no date", word, Date::parse(word).ok())?;
+    let date = or_no_such("no date", word, word.parse::<Date>().ok())?;
     Ok(date.day_number())
 }
 

@@ -1,4 +1,4 @@
-use Rattle.std.proofs.Common.{sym, ap, refl, arith, rules}
+use Rattle.std.proofs.Common.{sym, ap, refl, rules}
 use Rattle.std.specs.Option.{option_map}
 use Rattle.correction.specs.declared.error.Uncorrected.TheVariants.{MissingRate}
 use Rattle.correction.proofs.WalkLaws.{corrected_none, small, arrived}
