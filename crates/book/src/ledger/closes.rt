@@ -181,7 +181,7 @@ impl Ledger {
         requires priced { length prices.now ≡ length self.old.months }
         requires adjustments_long { HasRoom (length self.old.accounts) (length self.old.months) (length adjustments.old) }
         requires day_trades_long { HasRoom (length self.old.accounts) (length self.old.months) (length day_trades.old) }
-        ensures adjusted { adjustments.new ≡ written_to (length self.old.accounts) (length self.old.months) (λ a m. int_wrap w64 (adjustment_in self.old.session.trades prices.now self.old.positions a m)) adjustments.old }
+        ensures adjusted { adjustments.new ≡ written_to (length self.old.accounts) (length self.old.months) (adjustment_in self.old.session.trades prices.now self.old.positions) adjustments.old }
         ensures day_traded { day_trades.new ≡ written_to (length self.old.accounts) (length self.old.months) (λ a m. day_trade a m self.old.session.trades) day_trades.old }
         ensures same_tables { self.new ≡ self.old }
     {
