@@ -889,3 +889,331 @@ for price in 0.01 1.23 97.66 9876.54 54321.09 98765.43 99999.99; do
     run correct many-rates.txt 2026-12-01 $to $price
   done
 done
+
+# ------------------------------------------------------------------
+# A run of a journal of the given text (as for printf); then the options.
+journal() {
+  printf '\n# book.journal: %q' "$1"
+  printf "$1" >book.journal
+  run run "${@:2}" book.journal
+}
+
+# The tables that a run wrote into a folder.
+tables() {
+  local table
+  for table in "$1"/*; do
+    printf -- '-- %s\n' "$table"
+    cat "$table"
+  done
+}
+
+base='calendar rule\nexception 2027-01-01 closed\nrates table 2026-12-28 10\n'
+book="${base}book 1 2026-12-30\n"
+ready="${book}enter 101 7 3\nenter 102 7 3\nlist DI1F27\n"
+
+part 'run: commands'
+printf "$ready" >ready.journal
+run run
+run run --json
+run run --strict
+run run --csv
+run run --csv ready.journal
+run run ready.journal more
+run run ready.journal --json
+run run --json --json ready.journal
+run run --strict --strict ready.journal
+run run --csv . --csv . ready.journal
+run run --text ready.journal
+run run -s ready.journal
+run run --json --strict ready.journal
+run run --strict --json ready.journal
+run Run ready.journal
+run run missing.journal
+run run a-folder
+run run not-utf8.txt
+run run --csv no-folder ready.journal
+run run --csv no-folder missing.journal
+run run --csv no-folder office.txt
+
+part 'run: the example journals'
+cp "$here"/../crates/settle/data/*.journal "$here"/../crates/settle/data/*.bin .
+for name in example edges fortnight; do
+  run run $name.journal
+  run run --json $name.journal
+  run run --strict $name.journal
+  mkdir csv-$name
+  run run --json --csv csv-$name $name.journal
+  tables csv-$name
+done
+
+part 'run: messages about the office lines'
+journal ''
+journal '\n# only a note\n'
+journal 'book 1 2026-12-30\n'
+journal 'open\n'
+journal 'nothing\n'
+journal 'calendar\n'
+journal 'calendar marked missing.bin\nbook 1 2026-12-30\n'
+journal 'calendar rule\ncalendar rule\n'
+journal 'calendar marked every-day.bin\nexception 2026-12-30 closed\n'
+journal 'calendar rule\nexception 2026-12-30\n'
+journal 'calendar rule\nexception 2026-12-32 closed\n'
+journal 'calendar rule\nexception 2026-12-31 open\n'
+journal "${base}rates table 2026-12-28 10\n"
+journal 'calendar rule\nrates table x 1\n'
+journal 'calendar rule\nrates table 2026-12-28 x\n'
+journal 'calendar rule\nrates table 2026-12-28 36526\n'
+journal 'calendar rule\nrates\n'
+journal 'calendar rule\nrate 2026-12-28 10\n'
+journal 'calendar rule\narbitrate 2026-12-28 10\n'
+journal "${base}rate 2026-12-28\n"
+journal "${base}rate 2026-12-28 x\n"
+journal "${base}arbitrate 2026-12-28 x\n"
+journal "${base}arbitrate 2026-12-28\n"
+journal "${base}rate 2027-01-07 10\n"
+journal "${base}rate 2026-12-28 10\narbitrate 2026-12-28 10\n"
+journal "${base}rate 2026-12-28 100\n"
+journal "${base}nothing\n"
+journal "${base}Book 1 2026-12-30\n"
+
+part 'run: messages about the book line'
+for call in 'enter 1 2 3' 'list DI1F27' 'publish 2026-12-30 10' open 'trade 0 1 DI1F27 10 1' \
+  'import x' 'mark DI1F27 1' close pay write-off 'position 0 DI1F27' 'balance 0' 'trade x' 'open 1'; do
+  journal "${base}$call\nbook 1 2026-12-30\n"
+done
+journal "${base}"
+journal "${base}\n# a note\n\n"
+journal 'calendar rule'
+journal "${base}book\n"
+journal "${base}book 1\n"
+journal "${base}book 1 2026-12-30 1\n"
+journal "${base}book x y\n"
+journal "${base}book 4294967296 2026-12-30\n"
+journal "${base}book -1 2026-12-30\n"
+journal "${base}book 1 y\n"
+journal "${base}book 1 2026-12-32\n"
+journal "${base}book 1 2100-01-01\n"
+journal "${base}book 0 2000-01-01\n"
+journal "${base}book 4294967295 2099-12-31\n"
+journal "${base}book 007 2026-12-30\nopen\n"
+journal "${book}book 1 2026-12-30\n"
+journal "${book}open\nbook\n"
+journal "${book}calendar rule\n"
+journal "${book}calendar\n"
+journal "${book}exception 2026-12-31 closed\n"
+journal "${book}rates table 2026-12-28 10\n"
+journal "${book}rate 2026-12-30 10\n"
+journal "${book}open\nrate x y\n"
+
+part 'run: messages about calls'
+for call in enter 'enter 1' 'enter 1 2' 'enter 1 2 3 4' 'enter x y z' 'enter 1 y z' 'enter 1 2 z' \
+  'enter 1 2 4294967296' 'enter -1 2 3' 'enter 1.0 2 3' \
+  list 'list DI1F27 DI1G27' 'list di1f27' 'list DI1A27' 'list F27' 'list 324' \
+  publish 'publish 2026-12-30' 'publish 2026-12-30 10 1 1' 'publish x y z' 'publish 2026-12-30 y z' \
+  'publish 2026-12-30 10 z' 'publish 2026-12-30 10 4294967296' 'publish 2026-12-30 10.1234567' \
+  'publish 2026-12-30 10%%' 'publish 2027-02-29 10' 'publish 2026-12-30 4294.967296' \
+  arbitrate 'arbitrate 2026-12-30' 'arbitrate 2026-12-30 10 1' 'arbitrate x y' \
+  'arbitrate 2026-12-30 .5' 'arbitrate 2026-12-30 10,5' \
+  'open 2026-12-30' 'open # a note' \
+  trade 'trade 0 1 DI1F27 10' 'trade 0 1 DI1F27 10 1 1' 'trade a b c d e' 'trade 0 b c d e' \
+  'trade 0 1 c d e' 'trade 0 1 DI1F27 d e' 'trade 0 1 DI1F27 10 e' 'trade 256 1 DI1F27 10 1' \
+  'trade 0 256 DI1F27 10 1' 'trade 0 1 DI1F27 10.0000 1' 'trade 0 1 DI1F27 10 4294967296' \
+  'trade 0 1 DI1F27 4294967.296 1' 'trade 0 1 DI1F27 10 1.5' 'trade 00000000000 1 DI1F27 10 1' \
+  import 'import sheet.bin sheet.bin' 'import missing.bin' 'import a-folder' 'import ./missing.bin' \
+  mark 'mark DI1F27' 'mark DI1F27 99925.00 1' 'mark x y' 'mark DI1F27 99925.000' 'mark DI1F27 x' \
+  'mark DI1F27 42949672.96' 'mark DI1F27 -1' \
+  'close 2026-12-30' 'pay 1' 'write-off 1' 'writeoff' \
+  position 'position 0' 'position 0 DI1F27 1' 'position x y' 'position 256 DI1F27' 'position 0 y' \
+  balance 'balance 0 1' 'balance x' 'balance 256' 'balance 1.0' \
+  nothing 'Open' 'open, close' 'session 2026-12-30'; do
+  journal "${ready}open\n$call\nnothing\n"
+done
+echo 'bad text comes before every answer'
+journal "${ready}open\nopen\nclose x\n" --strict
+journal "${ready}close\nmissing\n" --json
+mkdir -p csv-bad
+journal "${ready}open\nx\n" --csv csv-bad
+ls csv-bad
+
+part 'run: forms that are taken'
+journal "$book"
+journal "calendar rule\nbook 1 2026-12-30"
+journal "calendar rule\r\nbook 1 2026-12-30\r\n\r\n# a note\r\n enter\t1  2\t\t3 \r\nopen\r\n"
+journal "${book}# a note\n\n  # another\nenter 1 2 3\n\nenter 001 02 0000000004\nbalance 000\n"
+journal "${book}enter 4294967295 4294967295 4294967295\nenter 0 0 0\nlist DI1F00\nlist DI1Z99\n"
+journal "${ready}open\ntrade 00 0000000001 DI1F27 0010.0 0010\nmark DI1F27 0099925.0\n"
+journal "calendar\302\240rule\nbook\t1\302\2402026-12-30\nenter\302\2401\342\200\2032 3\n"
+
+part 'run: refusals, one by one'
+call() { # calls after the ready book
+  journal "${ready}$1"
+}
+call 'open\ntrade 2 1 DI1F27 10 1\ntrade 0 2 DI1F27 10 1\ntrade 0 1 DI1G27 10 1\ntrade 0 255 DI1F27 10 1\n'
+call 'open\nmark DI1G27 1\nmark DI1F00 0\nposition 2 DI1F27\nposition 0 DI1G27\nbalance 2\nbalance 255\n'
+call 'open\nmark DI1F27 1\nclose\nopen\npay\nmark DI1F27 1\npublish 2026-12-30 10\nclose\nopen\npay\ntrade 0 1 DI1F27 10 1\nmark DI1F27 1\n'
+call 'open\ntrade 0 0 DI1F27 10 0\ntrade 0 1 DI1F27 100 0\ntrade 0 1 DI1F27 100 20001\ntrade 0 1 DI1F27 100 20000\n'
+call 'list DI1H27\nlist DI1J27\nlist DI1Z27\nlist DI1F28\nopen\ntrade 0 1 DI1H27 0.001 1\ntrade 0 1 DI1J27 0.005 1\ntrade 0 1 DI1J27 0.004 1\ntrade 0 1 DI1Z27 0.005 1\ntrade 0 1 DI1Z27 0.006 1\ntrade 0 1 DI1F28 0.020 1\ntrade 0 1 DI1F28 0.015 1\n'
+call 'list DI1F37\nopen\ntrade 0 1 DI1F37 10 1\ntrade 0 1 DI1F37 10.001 1\ntrade 1 0 DI1F37 100 1\n'
+call 'open\nmark DI1F27 0\nmark DI1F27 0.01\nmark DI1F27 100000\nmark DI1F27 100000.01\nmark DI1F27 42949672.95\n'
+call 'open\nopen\nopen\n'
+call 'open\nmark DI1F27 99925\nclose\nopen\nmark DI1F27 99925\nclose\nclose\npay\nclose\npublish 2026-12-30 10\nclose\n'
+call 'list DI1H27\nlist DI1G27\nopen\nclose\nmark DI1F27 99925\nclose\nmark DI1G27 99925\nclose\nmark DI1H27 99925\nclose\n'
+call 'open\nmark DI1F27 99925\nclose\nopen\npay\nmark DI1F27 99925\nclose\narbitrate 2026-12-30 10\nclose\nopen\npay\nclose\npublish 2026-12-31 10\nclose\n'
+call 'open\npay\nmark DI1F27 99925\nclose\npay\nopen\npay\npay\n'
+call 'enter 101 7 3\nlist DI1F27\nlist DI1Z26\nlist DI1F00\nlist DI1Z99\n'
+call 'publish 2026-12-27 10\npublish 2027-01-07 10\narbitrate 2026-12-27 10\narbitrate 2027-01-07 100\n'
+call 'publish 2026-12-30 10\npublish 2026-12-30 100 2\narbitrate 2026-12-30 100\narbitrate 2026-12-31 10\npublish 2026-12-31 10 2\n'
+call 'publish 2026-12-30 100 2\npublish 2026-12-30 99.999999 2\npublish 2026-12-30 10 0\npublish 2026-12-30 99.999999 1\narbitrate 2026-12-31 100\narbitrate 2026-12-31 99.999999\n'
+
+part 'run: a book without rates'
+journal 'calendar rule\nbook 1 2026-12-30\npublish 2026-12-30 10\narbitrate 2026-12-30 10\nopen\nclose\nopen\npay\nclose\n'
+
+part 'run: nothing is held'
+call 'trade 0 1 DI1F27 10 1\nimport sheet.bin\nmark DI1F27 0\nclose\npay\nwrite-off\n'
+call 'open\npay\nwrite-off\nmark DI1F27 1\nclose\ntrade 9 9 DI1G27 100 0\nimport sheet.bin\nmark DI1G27 0\nclose\nwrite-off\nwrite-off\npay\n'
+printf "${ready}close\nopen\nmark DI1F27 1\nclose\npay\nwrite-off\npay\n" >held.journal
+run run --json held.journal
+run run --strict held.journal
+printf "${ready}close\npay\nwrite-off\n" >held.journal
+run run --strict held.journal
+
+part 'run: a slip that is written off, and one that is left'
+call 'open\nmark DI1F27 1\nclose\nwrite-off\nopen\nmark DI1F27 1\npublish 2026-12-30 10\nclose\npay\n'
+call 'open\ntrade 0 1 DI1F27 10 10\nmark DI1F27 99925\nclose\n'
+call 'open\ntrade 0 1 DI1F27 10 10\nmark DI1F27 99925\nclose\nopen\n'
+
+part 'run: accounts and months that are not there'
+journal "${book}open\nclose\nopen\npay\npublish 2026-12-30 10\nclose\n"
+journal "${book}enter 1 1 1\nopen\nclose\n"
+journal "${book}list DI1F27\nopen\nmark DI1F27 1\nclose\n"
+journal "${book}list DI1F27\nopen\nmark DI1F27 1\nclose\n" --json
+journal "${book}enter 1 1 1\nopen\nclose\n" --json
+journal "${book}open\nclose\n" --json
+echo 'they come after a close'
+call 'open\ntrade 0 1 DI1F27 10 10\nmark DI1F27 99925\nclose\nenter 3 3 3\nlist DI1G27\nposition 2 DI1F27\nposition 0 DI1G27\nbalance 2\n'
+call 'open\ntrade 0 1 DI1F27 10 10\nmark DI1F27 99925\nclose\nenter 3 3 3\nlist DI1G27\npublish 2026-12-30 10\nopen\npay\ntrade 2 0 DI1G27 10 5\ntrade 2 1 DI1F27 10 5\nmark DI1F27 99962\nmark DI1G27 99200\nclose\n'
+
+part 'run: 32 accounts, 16 months'
+{
+  printf "$book"
+  for i in {1..33}; do echo "enter $i 1 1"; done
+  echo 'enter 1 1 1'
+  for year in 27 28; do for letter in F G H J K M N Q U; do echo "list DI1$letter$year"; done; done
+  echo 'list DI1F27'
+  echo 'list DI1F00'
+  printf 'open\ntrade 31 0 DI1N28 10 1\ntrade 32 0 DI1N28 10 1\nposition 31 DI1N28\nclose\n'
+} >table.journal
+run run table.journal
+
+part 'run: an expiry on the first session, and before the start'
+journal "calendar rule\nrates table 2027-01-01 10\nbook 1 2027-01-01\nlist DI1F27\nlist DI1G27\n"
+journal "calendar rule\nexception 2027-01-01 closed\nrates table 2027-01-01 10\nbook 1 2027-01-01\nenter 1 1 1\nenter 2 2 2\nlist DI1F27\nopen\ntrade 0 1 DI1F27 10 1\nmark DI1F27 1\nclose\nlist DI1G27\n"
+journal "calendar rule\nbook 1 2027-01-02\nlist DI1F27\nlist DI1G27\nopen\nlist DI1G27\n"
+
+part 'run: the next session'
+# From 2026-12-30 on: a session, then 59, 60 and 61 days to the next ones.
+{ repeat 9860 '\0'; printf '\2'; repeat 58 '\1'; printf '\2'; repeat 59 '\0'; printf '\2'; repeat 60 '\1'; printf '\2'; } >gaps.bin
+for start in 2026-12-30 2026-12-31 2027-01-01 2026-10-31 2026-11-01; do
+  {
+    printf 'calendar marked gaps.bin\nrates table 2026-12-01 400\n'
+    days rate 9860 150
+    printf 'book 1 %s\nenter 1 1 1\nenter 2 2 2\nlist DI1G27\nlist DI1J27\nlist DI1M27\n' $start
+    printf 'open\ntrade 0 1 DI1G27 10 7\ntrade 1 0 DI1J27 10 100\nmark DI1G27 99000\nmark DI1J27 98000\nmark DI1M27 97000\nclose\n'
+    printf 'open\npay\nmark DI1J27 98765.43\nmark DI1M27 97500\nclose\nopen\npay\nmark DI1M27 98500\nclose\nopen\npay\n'
+  } >gaps.journal
+  printf '\n# gaps.journal: from %s on' $start
+  run run gaps.journal
+done
+journal 'calendar rule\nbook 1 2099-12-31\nopen\nclose\nopen\npay\nwrite-off\n'
+journal 'calendar rule\nbook 1 2099-12-30\nopen\nclose\nopen\npay\n'
+journal 'calendar marked empty.bin\nbook 1 2026-12-30\nlist DI1F27\nopen\nclose\n'
+
+part 'run: sheets'
+sheet_of() { # name, text of a sheet (as for printf)
+  printf "$2" >text.txt
+  "$program" sheet make text.txt "$1" >/dev/null
+}
+sheet_of day.bin 'session 2026-12-30\ntrade 0 1 DI1F27 10 10\ntrade 1 0 DI1F27 10.001 4\n'
+sheet_of one.bin 'session 2026-12-30\ntrade 0 1 DI1F27 10 10\n'
+sheet_of no-lines.bin 'session 2026-12-30\n'
+sheet_of other-day.bin 'session 2026-12-31\ntrade 0 1 DI1F27 10 10\n'
+sheet_of unlisted.bin 'session 2026-12-30\ntrade 0 1 DI1F27 10 10\ntrade 0 1 DI1G27 10 10\ntrade 0 1 DI1F27 10 10\n'
+sheet_of limit.bin 'session 2026-12-30\ntrade 0 1 DI1F27 10 20001\n'
+sheet_of stranger.bin 'session 2026-12-30\ntrade 0 1 DI1F27 10 1\ntrade 0 1 DI1F27 10 2\ntrade 255 0 DI1F27 10 3\n'
+printf '\001' >short.bin
+printf '\001\001\204\046' >count.bin
+printf '\001\000\204\046' >length.bin
+printf "\\003\\000\\204\\046\\000\\001\\002\\003\\004\\005$term$term$other" >code.bin
+printf "\\001\\000\\205\\046\\000\\001$other" >day-and-code.bin
+imports='open\n'
+for name in day one no-lines other-day unlisted limit stranger short count length code day-and-code; do
+  imports="${imports}import $name.bin\n"
+done
+call "$imports"
+journal "${ready}$imports" --json
+for name in other-day unlisted code; do
+  journal "${ready}open\nimport day.bin\nimport $name.bin\nposition 0 DI1F27\n" --strict
+  journal "${ready}open\nimport day.bin\nimport $name.bin\nposition 0 DI1F27\n" --strict --json
+done
+mkdir -p folder/sheets
+cp day.bin folder/sheets
+printf "${ready}open\nimport sheets/day.bin\n" >folder/book.journal
+run run folder/book.journal
+run run ./folder/../folder/book.journal
+printf "${ready}open\nimport day.bin\n" >folder/book.journal
+run run folder/book.journal
+printf "${ready}open\nimport ../day.bin\n" >folder/book.journal
+run run folder/book.journal
+printf "calendar marked marked.bin\nbook 1 2026-12-30\nopen\n" >folder/book.journal
+run run folder/book.journal
+
+part 'run: 256 trades in a session'
+{ printf 'session 2026-12-30\n'; for i in {1..255}; do echo "trade $((i % 2)) $(((i + 1) % 2)) DI1F27 10.0$((i % 90 + 10)) $i"; done; } >text.txt
+"$program" sheet make text.txt 255.bin >/dev/null
+call 'open\nimport 255.bin\nimport day.bin\ntrade 0 1 DI1F27 10 1\nmark DI1F27 99925\nclose\nopen\npay\ntrade 0 1 DI1F27 10 1\n'
+
+part 'run: 500,000 contracts'
+{ printf 'session 2026-12-30\n'; for i in {1..25}; do echo 'trade 0 1 DI1F27 10 20000'; done; } >text.txt
+"$program" sheet make text.txt big.bin >/dev/null
+call 'enter 3 3 3\nopen\nimport big.bin\ntrade 0 1 DI1F27 10 1\ntrade 0 2 DI1F27 10 1\ntrade 2 1 DI1F27 10 1\ntrade 1 0 DI1F27 10 1\ntrade 0 2 DI1F27 10 1\nposition 0 DI1F27\nposition 1 DI1F27\nposition 2 DI1F27\nmark DI1F27 0.01\nclose\nbalance 0\n'
+
+part 'run: day trades'
+call 'open\ntrade 0 1 DI1F27 10 10\ntrade 0 1 DI1F27 11 10\ntrade 1 0 DI1F27 9 15\nmark DI1F27 99925\nclose\n'
+call 'enter 3 3 3\nopen\ntrade 0 1 DI1F27 10 10\ntrade 1 2 DI1F27 10.5 4\ntrade 1 2 DI1F27 10.2 4\ntrade 2 0 DI1F27 10.1 8\nmark DI1F27 99925\nclose\n'
+
+part 'run: a corrected price at a half of a centavo, and just under and over one'
+for rate in 13.424633 13.424346 13.424918; do
+  call "open\ntrade 0 1 DI1F27 10 1\nmark DI1F27 10\nclose\npublish 2026-12-30 $rate\nopen\npay\nmark DI1F27 30\nclose\npublish 2026-12-31 $rate\nopen\npay\nclose\n"
+done
+
+part 'run: numbers of many digits'
+journal "${base}book 4294967295 2026-12-30\nenter 4294967295 4294967295 4294967295\nenter 0 0 0\nlist DI1F27\nopen\nimport big.bin\nmark DI1F27 0.01\nclose\nwrite-off\n"
+
+part 'run: positions and counts of one'
+call 'open\ntrade 0 1 DI1F27 10 1\nposition 0 DI1F27\nposition 1 DI1F27\nimport one.bin\ntrade 1 0 DI1F27 10 10\ntrade 1 0 DI1F27 10 1\nposition 0 DI1F27\n'
+
+part 'run: strict'
+call_strict() { journal "${ready}$1" --strict; }
+call_strict 'open\nopen\nopen\n'
+call_strict 'open\nclose\nmark DI1F27 1\n'
+call_strict 'open\nmark DI1F27 1\nclose\nopen\npay\nmark DI1F27 1\nclose\npublish 2026-12-30 10\n'
+call_strict 'open\nmark DI1F27 1\nclose\nopen\npay\nmark DI1F27 1\npublish 2026-12-30 10\nclose\n'
+call_strict 'balance 9\n'
+call_strict 'publish 2026-12-30 100\n'
+journal "${ready}open\nopen\nopen\n" --strict --json
+journal "${ready}open\nclose\nopen\n" --strict --json
+
+part 'run: tables'
+mkdir csv
+journal "${ready}open\nimport day.bin\ntrade 0 1 DI1F27 0.5 3\nmark DI1F27 99925\nclose\nenter 3 3 3\nlist DI1G27\npublish 2026-12-30 10\nopen\npay\ntrade 2 0 DI1G27 99.999 5\nmark DI1F27 99962\nmark DI1G27 99200\nclose\n" --csv csv
+tables csv
+journal "$book" --csv csv/ --json
+tables csv
+journal "${ready}open\nmark DI1F27 1\nclose\nopen\nclose\nopen\n" --strict --csv ./csv
+tables csv
+echo 'a table that cannot be written'
+mkdir stuck stuck/balances.csv
+journal "$ready" --csv stuck
+ls stuck | grep -c '\.new$'
+touch plain-file
+journal "$ready" --csv plain-file

@@ -1,4 +1,6 @@
 // The same work as the proved program `measure`, in plain Rust: the same commands, the same prints.
+// Besides, chains of divided steps to compare with, and a count of the trials that a root takes.
+use std::cmp::Ordering;
 use std::env;
 use std::process::ExitCode;
 
@@ -188,53 +190,158 @@ fn expiry<C: Calendar>(calendar: &C, month: u32) -> Option<u32> {
 
 const ONE: u64 = 1_000_000_000;
 const YEAR: u32 = 252;
-const BEYOND: u64 = 1_002_754_371;
-const DI_MOST: u32 = 99_999_999;
-const DEALT_MOST: u32 = 99_999;
-const DAYS_MOST: u32 = 2_520;
+const MAX_ROOT: u64 = 1_002_754_370;
+const MAX_DI_RATE: u32 = 99_999_999;
+const MAX_DEALT_RATE: u32 = 99_999;
+const MAX_RESERVE_DAYS: u32 = 2_520;
 
-fn raised(factor: u64, times: u32) -> u64 {
-    let mut reached = ONE;
-    for _ in 0..times {
-        reached = reached * factor / ONE;
+fn high_word(a: u64, b: u64) -> u64 {
+    ((a as u128 * b as u128) >> 64) as u64
+}
+
+#[derive(Clone, Copy)]
+struct Multiplier {
+    excess: u64,
+}
+
+impl Multiplier {
+    fn new(factor: u64) -> Multiplier {
+        let over = factor - ONE;
+        Multiplier {
+            excess: over * 18_446_744_073 + over * 709_551_616 / ONE + 1,
+        }
     }
-    reached
+
+    fn multiply(self, power: u64) -> u64 {
+        power + high_word(power, self.excess)
+    }
 }
 
-fn lessened(whole: u64, part: u64, under: u64) -> u64 {
-    whole * ONE - part * ONE / under
+#[derive(Clone, Copy)]
+struct Divisor {
+    number: u64,
+    reciprocal: u64,
 }
+
+impl Divisor {
+    fn new(number: u64) -> Divisor {
+        Divisor {
+            number,
+            reciprocal: u64::MAX / number,
+        }
+    }
+
+    fn divide(self, dividend: u64) -> u64 {
+        let near = high_word(dividend, self.reciprocal);
+        if dividend - near * self.number < self.number {
+            near
+        } else {
+            near + 1
+        }
+    }
+}
+
+#[derive(Clone, Copy)]
+struct Powers {
+    lower: u64,
+    upper: u64,
+}
+
+#[derive(Clone, Copy)]
+struct Neighbours {
+    lower: Multiplier,
+    upper: Multiplier,
+}
+
+impl Neighbours {
+    fn new(factor: u64) -> Neighbours {
+        Neighbours {
+            lower: Multiplier::new(factor),
+            upper: Multiplier::new(factor + 1),
+        }
+    }
+
+    fn raise(self, powers: Powers, from: u32, to: u32) -> Powers {
+        let mut lower = powers.lower;
+        let mut upper = powers.upper;
+        for _ in from..to {
+            lower = self.lower.multiply(lower);
+            upper = self.upper.multiply(upper);
+        }
+        Powers { lower, upper }
+    }
+
+    fn trial(self, days: u32) -> Trial {
+        let start = Powers {
+            lower: ONE,
+            upper: ONE,
+        };
+        let part = self.raise(start, 0, days);
+        Trial {
+            power: part.lower,
+            year: self.raise(part, days, YEAR),
+        }
+    }
+}
+
+#[derive(Clone, Copy)]
+struct Trial {
+    power: u64,
+    year: Powers,
+}
+
+impl Trial {
+    fn compare(self, target: u64) -> Ordering {
+        if self.year.lower > target {
+            Ordering::Greater
+        } else if self.year.upper <= target {
+            Ordering::Less
+        } else {
+            Ordering::Equal
+        }
+    }
+}
+
+const UNIT: u64 = 1 << 32;
+const FINE_UNIT: u64 = 1 << 40;
 
 fn logarithm(s: u64) -> u64 {
-    let z = s * s / ONE;
-    let c = 7 * ONE - 9 * z / 5;
-    let b = lessened(5, 9 * z, c);
-    let a = lessened(3, 4 * z, b);
-    2 * s * a / (a - z)
+    let z = s * s / UNIT;
+    let mut sum = 0;
+    for k in (0..7).rev() {
+        sum = UNIT / (2 * k + 1) + sum * z / UNIT;
+    }
+    2 * s * sum / UNIT
 }
 
 fn guess(target: u64) -> u64 {
-    let y = logarithm((target - ONE) * ONE / (target + ONE)) * 1_000 / 252;
-    let squared = y * (y + y * y / 3_000_000_000_000) / 2_000_000_000_000;
-    ONE + (y + squared + 900) / 1_000
+    let log = logarithm((target - ONE) * UNIT / (target + ONE));
+    let part = log * 64 / 63;
+    let over = part + part * (part + part * part / (3 * FINE_UNIT)) / (2 * FINE_UNIT);
+    let dropped = FINE_UNIT / 2 - 51 * log;
+    ONE + (over * ONE + dropped) / FINE_UNIT
 }
 
-fn root_within(target: u64) -> u64 {
-    let mut low = ONE;
-    let mut high = BEYOND;
-    let mut next = guess(target);
-    while high - low > 1 {
-        let at = next.max(low + 1).min(high - 1);
-        let reached = raised(at, YEAR);
-        if reached <= target {
-            low = at;
-            next = at + (target - reached) * ONE / (252 * reached);
-        } else {
-            high = at;
-            next = (at - 1).saturating_sub((reached - target) * ONE / (252 * reached));
+struct FoundRoot {
+    factor: u64,
+    power: u64,
+}
+
+fn root_within(target: u64, days: u32) -> FoundRoot {
+    let mut factor = guess(target).clamp(ONE, MAX_ROOT);
+    loop {
+        let trial = Neighbours::new(factor).trial(days);
+        match trial.compare(target) {
+            Ordering::Less => factor += 1,
+            Ordering::Equal => {
+                return FoundRoot {
+                    factor,
+                    power: trial.power,
+                };
+            }
+            Ordering::Greater => factor -= 1,
         }
     }
-    low
 }
 
 enum Unpriceable {
@@ -247,16 +354,18 @@ fn to_eight_decimals(factor: u64) -> u32 {
 }
 
 fn day_factor(rate: u32) -> Option<u32> {
-    if rate > DI_MOST {
+    if rate > MAX_DI_RATE {
         return None;
     }
-    Some(to_eight_decimals(root_within(ONE + 10 * rate as u64)))
+    let target = ONE + 10 * rate as u64;
+    Some(to_eight_decimals(root_within(target, 0).factor))
 }
 
-fn discounted(worth: u64, rate: u32, years: u32) -> u64 {
+fn discount(worth: u64, rate: u32, years: u32) -> u64 {
+    let year = Divisor::new(100_000 + rate as u64);
     let mut left = worth;
     for _ in 0..years {
-        left = left * 100_000 / (100_000 + rate as u64);
+        left = year.divide(left * 100_000);
     }
     left
 }
@@ -266,16 +375,16 @@ fn to_centavos(worth: u64) -> u32 {
 }
 
 fn price_within(rate: u32, days: u32) -> u32 {
-    let factor = root_within(ONE + 10_000 * rate as u64);
-    let part = 10_000_000_000_000_000_000 / raised(factor, days % YEAR) * 10_000;
-    to_centavos(discounted(part, rate, days / YEAR))
+    let root = root_within(ONE + 10_000 * rate as u64, days % YEAR);
+    let worth = 10_000_000_000_000_000_000 / root.power * 10_000;
+    to_centavos(discount(worth, rate, days / YEAR))
 }
 
 fn check_limits(rate: u32, days: u32) -> Result<(), Unpriceable> {
-    if rate > DEALT_MOST {
+    if rate > MAX_DEALT_RATE {
         return Err(Unpriceable::RateTooHigh);
     }
-    if days > DAYS_MOST {
+    if days > MAX_RESERVE_DAYS {
         return Err(Unpriceable::TooFar);
     }
     Ok(())
@@ -321,7 +430,7 @@ fn on_tick(rate: u32, distance: u32) -> bool {
 
 // ---- sheet
 
-const MOST_TRADES: u16 = 256;
+const MAX_TRADES: u16 = 256;
 
 #[derive(Clone, Copy)]
 struct Trade {
@@ -449,7 +558,7 @@ fn write(day: u16, trades: &[Trade], out: &mut [u8]) -> Result<usize, WriteFault
     if is_short(out.len(), count) {
         return Err(WriteFault::Short);
     }
-    if count > MOST_TRADES as usize || !are_coded(trades) {
+    if count > MAX_TRADES as usize || !are_coded(trades) {
         return Err(WriteFault::BadSheet);
     }
     let terms = 4 + 2 * count;
@@ -564,7 +673,7 @@ fn framed(bytes: &[u8]) -> Result<u16, SheetFault> {
         return Err(SheetFault::Length);
     }
     let count = number_of_two(&bytes[0..2]);
-    if count > MOST_TRADES {
+    if count > MAX_TRADES {
         return Err(SheetFault::Count);
     }
     if bytes.len() != 4 + 16 * count as usize {
@@ -591,8 +700,6 @@ fn first_bad_line(bytes: &[u8], count: u16) -> Option<u32> {
 }
 
 // ---- pricing
-
-const MOST_RATE: u32 = 99_999;
 
 #[allow(dead_code)]
 struct PricedTrade {
@@ -622,7 +729,7 @@ fn price_trade<C: Calendar>(
     if expiry <= session {
         return Err(Cause::Expired);
     }
-    if trade.rate > MOST_RATE {
+    if trade.rate > MAX_DEALT_RATE {
         return Err(Cause::RateTooHigh);
     }
     let Some(month) = month_of(session) else {
@@ -772,35 +879,47 @@ fn sheets(count: u32) -> Total {
     total
 }
 
-// ---- powers of a root
+// ---- chains of divided steps, and trials of a root
 
-// The root, and the powers that it took.
-fn root_counted(target: u64) -> (u64, u32) {
-    let mut powers = 0;
-    let mut low = ONE;
-    let mut high = BEYOND;
-    let mut next = guess(target);
-    while high - low > 1 {
-        let at = next.max(low + 1).min(high - 1);
-        let reached = raised(at, YEAR);
-        powers += 1;
-        if reached <= target {
-            low = at;
-            next = at + (target - reached) * ONE / (252 * reached);
-        } else {
-            high = at;
-            next = (at - 1).saturating_sub((reached - target) * ONE / (252 * reached));
-        }
+fn chain(factor: u64) -> u64 {
+    let mut power = ONE;
+    for _ in 0..YEAR {
+        power = power * factor / ONE;
     }
-    (low, powers)
+    power
 }
 
-// The root by plain halving.
+// The sum of so many powers to 252, each by one chain of divided steps.
+fn chains(count: u32) -> u64 {
+    let mut numbers = Numbers::new();
+    let mut sum: u64 = 0;
+    for _ in 0..count {
+        let factor = ONE + numbers.below(2_754_371) as u64;
+        sum = sum.wrapping_add(chain(factor));
+    }
+    sum
+}
+
+// The root, and the trials that it took.
+fn root_counted(target: u64) -> (u64, u32) {
+    let mut trials = 0;
+    let mut factor = guess(target).clamp(ONE, MAX_ROOT);
+    loop {
+        trials += 1;
+        match Neighbours::new(factor).trial(0).compare(target) {
+            Ordering::Less => factor += 1,
+            Ordering::Equal => return (factor, trials),
+            Ordering::Greater => factor -= 1,
+        }
+    }
+}
+
+// The root by plain halving and divided steps.
 fn halved(target: u64) -> u64 {
     let (mut low, mut high) = (ONE, ONE + (1 << 22));
     while high - low > 1 {
         let at = (low + high) / 2;
-        if raised(at, YEAR) <= target {
+        if chain(at) <= target {
             low = at
         } else {
             high = at
@@ -809,8 +928,8 @@ fn halved(target: u64) -> u64 {
     low
 }
 
-// Counts the powers of every dealt rate, and of every 997th DI rate from the least on and the greatest.
-fn powers() -> ExitCode {
+// Counts the trials of every dealt rate, and of every 997th DI rate from the least on and the greatest.
+fn trials() -> ExitCode {
     let dealt = (0..100_000).map(|rate| ONE + 10_000 * rate);
     let di = (0..100_000_000)
         .step_by(997)
@@ -818,17 +937,17 @@ fn powers() -> ExitCode {
         .map(|rate| ONE + 10 * rate);
     let (mut roots, mut most, mut total) = (0u64, 0, 0u64);
     for target in dealt.chain(di) {
-        let (root, powers) = root_counted(target);
-        if root != halved(target) || root != root_within(target) {
+        let (root, trials) = root_counted(target);
+        if root != halved(target) || root != root_within(target, 0).factor {
             eprintln!("plain: the root of {target} is not as by halving");
             return ExitCode::FAILURE;
         }
         roots += 1;
-        most = most.max(powers);
-        total += powers as u64;
+        most = most.max(trials);
+        total += trials as u64;
     }
     let average = total as f64 / roots as f64;
-    println!("roots: {roots}, most {most} powers, average {average:.5}, all as by halving");
+    println!("roots: {roots}, most {most} trials, average {average:.5}, all as by halving");
     ExitCode::SUCCESS
 }
 
@@ -897,6 +1016,7 @@ fn corrections(count: u32) -> u64 {
 
 fn answer(command: &str, count: u32) -> Option<String> {
     match command {
+        "chains" => Some(format!("{count} chains, sum {}", chains(count))),
         "prices" => Some(format!("{count} prices, sum {}", prices(count))),
         "factors" => Some(format!("{count} factors, sum {}", factors(count))),
         "corrections" => Some(format!("{count} corrections, sum {}", corrections(count))),
@@ -913,7 +1033,7 @@ fn answer(command: &str, count: u32) -> Option<String> {
 fn main() -> ExitCode {
     let words: Vec<String> = env::args().skip(1).collect();
     let printed = match words.as_slice() {
-        [command] if command == "powers" => return powers(),
+        [command] if command == "trials" => return trials(),
         [command, count] => count
             .parse()
             .ok()
@@ -926,7 +1046,7 @@ fn main() -> ExitCode {
             ExitCode::SUCCESS
         }
         None => {
-            eprintln!("plain: a command is prices N, factors N, corrections N, sheets N or powers");
+            eprintln!("plain: a command is chains N, prices N, factors N, corrections N, sheets N or trials");
             ExitCode::FAILURE
         }
     }

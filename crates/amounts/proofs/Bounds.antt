@@ -2,14 +2,12 @@
 use Rattle.std.proofs.Common.{ℕ, ◌*◌, ◌^◌, ◌<◌, ◌≤◌, Bool, true, false, cond, ◌&&◌, eqb, List, [], ◌∷◌, length, nat_abs, arith}
 use borrow.Author.Differences.{ints}
 use Rattle.std.specs.List.{AllByRecursion}
-use Rattle.std.proofs.ByRecursion.{All-weaker}
 use Rattle.amounts.specs.declared.trades.Side.{Side}
 use Rattle.amounts.specs.declared.trades.Side.TheVariants.{Bought, Sold}
 use Rattle.amounts.specs.declared.trades.Trade.{Trade}
-use Rattle.amounts.specs.Trades.{party_of, contracts_on, contracts_of, position_change, Limited}
-use Rattle.amounts.specs.Amounts.{gain_of, on_trades}
+use Rattle.amounts.specs.Trades.{party_of, contracts_on, contracts_of}
+use Rattle.amounts.specs.Amounts.{on_trades}
 use Rattle.amounts.proofs.Gains.{gain-size}
-use Rattle.amounts.proofs.Totals.{total_size}
 
 pub contracts-most : (s : Side) (account month : ℕ) (t : Trade) → contracts_on s account month t ≤ t.contracts
 contracts-most s account month t = by (eqb t.month month && eqb (party_of s t) account)

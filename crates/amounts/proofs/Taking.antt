@@ -31,10 +31,6 @@ module _ (s : Side) (ts : List Trade) (i : ℕ) (d : Trade) (inside : i < length
       let m = before.most in
       omega (arith, mul-le-mul_left (min t.contracts x.left) k)
 
-  -- what a cell took stays small
-  pub taking-room : (taken_from s t cells).value < 2 ^ 64
-  taking-room = let m = most in omega arith
-
   after : IsUnderway s ts (i + 1) (party_of s t) t.month (taken_from s t cells)
   after =
       let x = get_or cells (cell_of s t) no_contracts in

@@ -1,12 +1,12 @@
 -- Rows written to an array, one after another.
-use Rattle.std.proofs.Common.{◌≡◌, ℕ, zero, suc, ◌+◌, ◌*◌, ◌<◌, ◌≤◌, List, [], ◌∷◌, ◌++◌, length, map, get_or, take, drop, set, ℤ, refl, sym, ap, ◌∙◌, add-one, suc-mul, zero-mul, append-nil, append_assoc, zero-add, arith}
+use Rattle.std.proofs.Common.{◌≡◌, ℕ, zero, suc, ◌+◌, ◌*◌, ◌<◌, ◌≤◌, List, [], ◌∷◌, ◌++◌, length, get_or, take, drop, set, ℤ, sym, ap, ◌∙◌, add-one, suc-mul, zero-mul, append-nil, append_assoc, zero-add, arith}
 use borrow.Rule.Slice.PartMut.{put_mid}
 use Rattle.std.specs.List.{flat_map, range_with_len}
 use Rattle.std.proofs.lemmas.Grind.{flat_map-append}
-use Rattle.std.proofs.lemmas.List.{drop-drop, take_more_set, take-append-drop, get_or_append_left, get_or-append-add}
+use Rattle.std.proofs.lemmas.List.{drop-drop, take_more_set, get_or_append_left, get_or-append-add}
 use Rattle.std.proofs.lemmas.List.FromFn.{map-range_with_len_more, length-map-range_with_len, get_or-map-range_with_len}
 use Rattle.std.proofs.lemmas.Slice.{drop-put_mid, take-put_mid}
-use Rattle.amounts.specs.Rows.{row_of, rows_of, written_to, RowsStand}
+use Rattle.amounts.specs.Rows.{row_of, rows_of, RowsStand}
 use Rattle.amounts.proofs.Totals.{range-more}
 
 -- one more cell of a row
@@ -18,9 +18,6 @@ row-more f row m v inside so_far here =
 pub record RowsWritten (n k : ℕ) (f : ℕ → ℕ → ℤ) (old new : List ℤ) : Type 0 where
   pub rows : take (n * k) new ≡ rows_of n k f
   pub rest : drop (n * k) new ≡ drop (n * k) old
-
-pub rows-none : (k : ℕ) (f : ℕ → ℕ → ℤ) (old : List ℤ) → RowsWritten 0 k f old old
-rows-none k f old = record { rows = ap (λ i. take i old) (zero-mul k); rest = refl }
 
 -- one more row
 pub rows-next : (n k w : ℕ) (f : ℕ → ℕ → ℤ) (old new row : List ℤ) → RowsWritten n k f old new → n * k + k ≤ length new → w ≡ k → length row ≡ k → row ≡ row_of (length row) (f n)
@@ -36,10 +33,6 @@ rows-next n k w f old new row h room width whole is =
       rest = drop-put_mid (n * k) w new row ((n + 1) * k) (omega arith) (omega arith) (whole ∙ sym width)
           ∙ rw next (sym (drop-drop k (n * k) new) ∙ ap (drop k) h.rest ∙ drop-drop k (n * k) old);
     }
-
--- all of them
-pub rows-all : (n k : ℕ) (f : ℕ → ℕ → ℤ) (old new : List ℤ) → RowsWritten n k f old new → new ≡ written_to n k f old
-rows-all n k f old new h = sym (take-append-drop (n * k) new) ∙ (λ i. h.rows i ++ h.rest i)
 
 -- ---- where an amount stands
 

@@ -22,7 +22,7 @@ RowsStand =
     → slice_index_or (written_to n k amount old) (account * k + month) d ≡ amount account month
 
 -- so many accounts and months a book may have, and an array of this length has a place for each amount
-pub record HasRoom (n k length : ℕ) : Type 0 where
+pub record HasRoom (n k len : ℕ) : Type 0 where
   pub few_accounts : n ≤ MAX_ACCOUNTS
   pub few_months : k ≤ MAX_MONTHS
-  pub long : n * k ≤ length
+  pub long : n * k ≤ len

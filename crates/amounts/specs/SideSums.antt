@@ -1,5 +1,5 @@
 -- The running sums of a session on each side, for each account and month.
-use Rattle.std.specs.Prelude.{◌≡◌, ◌<◌, ◌≤◌, ◌^◌, ℕ, ◌+◌, ◌*◌, List, length, sum}
+use Rattle.std.specs.Prelude.{◌≡◌, ◌<◌, ◌^◌, ℕ, ◌+◌, ◌*◌, List, length, sum}
 use Rattle.std.specs.List.{AllByRecursion, slice_index_or, slice_set}
 use Rattle.amounts.specs.declared.sums.SideSum.{SideSum}
 use Rattle.amounts.specs.declared.sums.Sums.{Sums}

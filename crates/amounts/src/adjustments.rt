@@ -1,17 +1,17 @@
 // The adjustments of a session, from its running sums.
-ghost use Rattle.std.specs.Prelude.{◌≡◌, pos, slice_index_or};
-ghost use Rattle.std.specs.Int.{int_wrap, w64};
+ghost use Rattle.std.specs.Prelude.{◌≡◌, ◌≤◌, ◌+◌, ◌*◌, ◌^◌, pos, ◌-ℤ◌, ◌*ℤ◌, unsigned_abs};
 ghost use Rattle.std.proofs.Props.{props};
-ghost use Rattle.amounts.specs.Closes.{no_prices, prices_of, IsBounded, adjustment_on};
+ghost use Rattle.amounts.specs.Amounts.{gain_of};
+ghost use Rattle.amounts.specs.Closes.{prices_of, within_limit, position_in, IsBounded, change_on, on_sums, adjustment_on};
 ghost use Rattle.amounts.specs.SideSums.{AreSums};
 
 use crate::rows::Amounts;
 use crate::sums::{SideSum, Sums, place};
-use crate::trades::Trade;
+use crate::trades::{MAX_CONTRACTS, MAX_POSITION, MAX_TRADES, Trade};
 
 /// The prices of a month at a close, in centavos: the settlement price, and the latest one before
 /// it, corrected to the session.
-#[derive(Clone, Copy)]
+#[derive(Clone, Copy, Default)]
 pub struct MonthPrices {
     pub settlement: u32,
     pub corrected: u32,
@@ -23,27 +23,105 @@ const NO_PRICES: MonthPrices = MonthPrices {
     corrected: 0,
 };
 
-// The adjustment on the sums of both sides, wrapping in 64 bits: the position at the settlement
-// price, less what the session's contracts came to, less the carried position at the corrected price.
+// The contracts bought less those sold.
+fn change(bought: SideSum, sold: SideSum) -> i64
+    requires bought { IsBounded bought }
+    requires sold { IsBounded sold }
+    ensures value { result ≡ change_on bought sold }
+    ensures most { unsigned_abs result ≤ MAX_TRADES * MAX_CONTRACTS }
+{
+    bought.contracts as i64 - sold.contracts as i64
+}
+
+// What the contracts bought came to less what those sold did.
+fn cost(bought: SideSum, sold: SideSum) -> i64
+    requires bought { IsBounded bought }
+    requires sold { IsBounded sold }
+    ensures value { result ≡ pos bought.value -ℤ pos sold.value }
+    ensures most { unsigned_abs result ≤ MAX_TRADES * MAX_CONTRACTS * 2 ^ 32 }
+{
+    bought.value as i64 - sold.value as i64
+}
+
+// What contracts come to at a price.
+fn at_price(contracts: i64, price: u32) -> i64
+    requires { unsigned_abs contracts ≤ MAX_TRADES * MAX_CONTRACTS }
+    ensures value { result ≡ contracts *ℤ pos price }
+    ensures most { unsigned_abs result ≤ MAX_TRADES * MAX_CONTRACTS * 2 ^ 32 }
+{
+    contracts * price as i64
+}
+
+// What contracts gain from one price to another.
+fn gain(contracts: i64, price: u32, before: u32) -> i64
+    requires { unsigned_abs contracts ≤ MAX_POSITION + MAX_TRADES * MAX_CONTRACTS }
+    ensures value { result ≡ gain_of contracts price before }
+    ensures most { unsigned_abs result ≤ (MAX_POSITION + MAX_TRADES * MAX_CONTRACTS) * 2 ^ 32 }
+{
+    contracts * (price as i64 - before as i64)
+}
+
+// What the trades of a session gain to the settlement price.
+fn on_trades(bought: SideSum, sold: SideSum, settlement: u32) -> i64
+    requires bought { IsBounded bought }
+    requires sold { IsBounded sold }
+    ensures value { result ≡ on_sums bought sold settlement }
+    ensures most { unsigned_abs result ≤ 2 * (MAX_TRADES * MAX_CONTRACTS) * 2 ^ 32 }
+{
+    at_price(change(bought, sold), settlement) - cost(bought, sold)
+}
+
+// The position that the session began with.
+fn carried(bought: SideSum, sold: SideSum, position: i32) -> i64
+    requires bought { IsBounded bought }
+    requires sold { IsBounded sold }
+    requires position { unsigned_abs position ≤ MAX_POSITION }
+    ensures value { result ≡ position -ℤ change_on bought sold }
+    ensures most { unsigned_abs result ≤ MAX_POSITION + MAX_TRADES * MAX_CONTRACTS }
+{
+    position as i64 - change(bought, sold)
+}
+
+// What the carried position gains from the corrected price to the settlement price.
+fn on_carried(bought: SideSum, sold: SideSum, position: i32, prices: MonthPrices) -> i64
+    requires bought { IsBounded bought }
+    requires sold { IsBounded sold }
+    requires position { unsigned_abs position ≤ MAX_POSITION }
+    ensures value { result ≡ gain_of (position -ℤ change_on bought sold) prices.settlement prices.corrected }
+    ensures most { unsigned_abs result ≤ (MAX_POSITION + MAX_TRADES * MAX_CONTRACTS) * 2 ^ 32 }
+{
+    let held = carried(bought, sold, position);
+    gain(held, prices.settlement, prices.corrected)
+}
+
+// The adjustment on the sums of both sides.
 fn adjustment(bought: SideSum, sold: SideSum, position: i32, prices: MonthPrices) -> i64
     requires bought { IsBounded bought }
     requires sold { IsBounded sold }
-    ensures { result ≡ int_wrap w64 (adjustment_on bought sold position prices) }
+    requires position { unsigned_abs position ≤ MAX_POSITION }
+    ensures { result ≡ adjustment_on bought sold position prices }
 {
-    let position = position as i64;
-    let cost = bought.value as i64 - sold.value as i64;
-    let carried = position - (bought.contracts as i64 - sold.contracts as i64);
-    let settled = position.wrapping_mul(prices.settlement as i64);
-    settled
-        .wrapping_sub(cost)
-        .wrapping_sub(carried.wrapping_mul(prices.corrected as i64))
+    on_trades(bought, sold, prices.settlement) + on_carried(bought, sold, position, prices)
 }
 
-// The position in a cell, 0 past the last.
-fn position_at(positions: &[i32], at: usize) -> i32
-    ensures { result ≡ slice_index_or positions.now at (pos 0) }
+// A position within the limit, 0 for one past it.
+fn within_limit(position: i32) -> i32
+    ensures value { result ≡ within_limit position }
+    ensures most { unsigned_abs result ≤ MAX_POSITION }
 {
-    positions.get(at).copied().unwrap_or(0)
+    if position.unsigned_abs() > MAX_POSITION {
+        return 0;
+    }
+    position
+}
+
+// The position of an account in a month.
+fn position_in(positions: &[i32], account: u8, month: u8) -> i32
+    ensures value { result ≡ position_in positions.now account month }
+    ensures most { unsigned_abs result ≤ MAX_POSITION }
+{
+    let at = place(account, month);
+    within_limit(positions.get(at).copied().unwrap_or(0))
 }
 
 // The prices of a month.
@@ -65,13 +143,14 @@ pub(crate) struct Adjustments<'s, 'b> {
 }
 
 impl Amounts for Adjustments<'_, '_> {
+    ghost use Rattle.amounts.specs.Amounts.{gain_of};
     ghost use Rattle.amounts.specs.Closes.{adjustment_in};
 
-    ghost amount_of = { λ s a m. int_wrap w64 (adjustment_in s.trades.now s.prices.now s.positions.now a m) };
+    ghost amount_of = { λ s a m. adjustment_in s.trades.now s.prices.now s.positions.now a m };
 
     fn amount(&self, account: u8, month: u8) -> i64 {
         let at = place(account, month);
-        let position = position_at(self.positions, at);
+        let position = position_in(self.positions, account, month);
         let prices = month_prices(self.prices, month);
         adjustment(self.sums.bought[at], self.sums.sold[at], position, prices)
     }

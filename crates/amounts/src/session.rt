@@ -1,7 +1,6 @@
 // The trades of a session, with their running sums.
 ghost use Rattle.std.specs.Prelude.{◌≡◌, ◌<◌, [], ◌∷◌, ◌++◌, length, nat_le, IsTrue, ◌↔◌, if◌then◌else◌};
-ghost use Rattle.std.specs.Int.{int_wrap, w64};
-ghost use Rattle.amounts.specs.Closes.{adjustment_in, FitsWithinLimit};
+ghost use Rattle.amounts.specs.Closes.{adjustment_in};
 ghost use Rattle.amounts.specs.DayTrades.{day_trade};
 ghost use Rattle.amounts.specs.Rows.{HasRoom, RowsStand, written_to};
 ghost use Rattle.amounts.specs.Trades.{FitsTables};
@@ -88,8 +87,8 @@ impl SessionTrades {
     }
 
     /// Writes what a close settles, in centavos, and answers whether the arrays have room for it: the
-    /// adjustments, wrapping in 64 bits, and the day-trade amounts. The row of account a starts at
-    /// a × k, k being how many months have prices.
+    /// adjustments and the day-trade amounts. The row of account a starts at a × k, k being how many
+    /// months have prices. The positions are those at the close, each at its `place`.
     pub fn write_amounts<'b>(
         &mut self,
         accounts: usize,
@@ -99,9 +98,10 @@ impl SessionTrades {
         day_trades: &mut [i64],
     ) -> bool
         ensures room { IsTrue result ↔ (HasRoom accounts (length prices.now) (length adjustments.old) × HasRoom accounts (length prices.now) (length day_trades.old)) }
-        ensures adjusted { adjustments.new ≡ (if result then written_to accounts (length prices.now) (λ a m. int_wrap w64 (adjustment_in self.old prices.now positions.now a m)) adjustments.old else adjustments.old) }
-        ensures exact { IsTrue result → FitsWithinLimit self.old prices.now positions.now }
+        ensures adjusted { adjustments.new ≡ (if result then written_to accounts (length prices.now) (adjustment_in self.old prices.now positions.now) adjustments.old else adjustments.old) }
         ensures day_traded { day_trades.new ≡ (if result then written_to accounts (length prices.now) (λ a m. day_trade a m self.old) day_trades.old else day_trades.old) }
+
+        // Whatever is written by rows stands at its place.
         ensures placed { RowsStand }
         ensures same_trades { self.new ≡ self.old }
     {

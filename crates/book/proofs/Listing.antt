@@ -1,19 +1,15 @@
 -- A month is listed.
-use Rattle.std.proofs.Common.{◌≡◌, ℕ, ◌≤◌, ◌⊎◌, false, List, [], ◌∷◌, ◌++◌, length, map, nat_eq, nat_le, nat_lt, not, ◌||◌, Some, None, Option, slice_get, refl, sym, ap, ◌∙◌, inl, inr, arith}
+use Rattle.std.proofs.Common.{◌≡◌, ℕ, ◌⊎◌, List, [], ◌∷◌, ◌++◌, length, map, nat_le, ◌||◌, Some, None, Option, slice_get, refl, sym, ap, ◌∙◌, inl, inr, arith}
 use Rattle.std.specs.Bool.{◌==◌}
 use Rattle.std.specs.List.{list_any}
-use Rattle.std.proofs.lemmas.Bool.Decides.{nat_tests}
-use Rattle.std.proofs.lemmas.List.{length-append}
 use Rattle.calendar.specs.declared.kind.DayKind.{DayKind}
 use Rattle.calendar.specs.Spans.{expiry_of, reserve_days}
 use Rattle.pricing.specs.Pricing.{expiry_day, days_to}
 use Rattle.rows.specs.Rows.{first_row, numbered}
-use Rattle.model.specs.History.{History, Listed, Opened, Marked, Closed}
+use Rattle.model.specs.History.{History, Listed}
 use Rattle.model.specs.Lawful.{Lawful}
-use Rattle.model.specs.Observed.{months_of, open_session}
-use Rattle.model.specs.Rows.{lacks_expiry, list_rows, mark_rows}
-use Rattle.model.proofs.Allowing.{none-hold}
-use Rattle.model.specs.Sessions.{sessions_of, newest_price}
+use Rattle.model.specs.Observed.{open_session}
+use Rattle.model.specs.Rows.{lacks_expiry, list_rows}
 use Rattle.model.specs.World.{World}
 use Rattle.book.specs.declared.ledger.MonthRow.{MonthRow}
 use Rattle.book.specs.Causes.{lacks_in, list_rows_in}

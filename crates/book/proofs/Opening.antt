@@ -1,11 +1,11 @@
 -- A session is opened.
-use Rattle.std.proofs.Common.{◌≡◌, ℕ, ◌+◌, zero, suc, List, [], ◌∷◌, length, map, Some, None, Option, slice_get, refl, sym, ◌∙◌}
+use Rattle.std.proofs.Common.{◌≡◌, ℕ, ◌+◌, zero, suc, List, [], ◌∷◌, length, map, Some, Option, slice_get, refl, sym, ◌∙◌}
 use Rattle.calendar.specs.declared.kind.DayKind.{DayKind}
 use Rattle.calendar.specs.Spans.{first_session, reserve_days}
 use Rattle.rows.specs.Rows.{first_row}
 use Rattle.model.specs.History.{History, Opened}
 use Rattle.model.specs.Lawful.{Lawful}
-use Rattle.model.specs.Observed.{months_of, latest_opened, next_from, next_session}
+use Rattle.model.specs.Observed.{latest_opened, next_from, next_session}
 use Rattle.model.specs.Rows.{open_rows}
 use Rattle.model.specs.World.{World}
 use Rattle.book.specs.declared.ledger.MonthRow.{MonthRow}

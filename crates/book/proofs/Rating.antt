@@ -1,19 +1,17 @@
 -- A rate is published or arbitrated.
-use Rattle.std.proofs.Common.{◌≡◌, ℕ, List, ◌∷◌, false, true, None, Option, Result, Ok, Err, refl, sym, ap, ◌∙◌, arith}
+use Rattle.std.proofs.Common.{◌≡◌, ℕ, List, ◌∷◌, false, true, None, Result, Ok, Err, refl, sym, ap, ◌∙◌, arith}
 use Rattle.std.proofs.lemmas.Bool.Decides.{nat_tests}
 use Rattle.std.specs.Result.{is_ok}
 use Rattle.calendar.specs.declared.kind.DayKind.{DayKind}
 use Rattle.rates.specs.declared.entry.DayRate.{DayRate}
-use Rattle.rates.specs.declared.error.Error as rates
-use Rattle.rates.specs.Errors as rate_errors
-use Rattle.rates.specs.Meanings.{Meaning, published_in, arbitrated_in}
+use Rattle.rates.specs.Meanings.{Meaning}
 use Rattle.refusal.specs.declared.Refusal.{Refusal}
 use Rattle.refusal.specs.Refusals.{reason_of}
 use Rattle.rows.specs.Rows.{Row, first_row, reason_by}
 use Rattle.model.specs.History.{History, Event, Published, Arbitrated, account_entered, month_listed, session_opened, trade_made, price_marked, amounts_written, is_payment}
 use Rattle.model.specs.Lawful.{Accepts, Lawful, Allowed}
 use Rattle.model.specs.Observed.{source_of, source_after}
-use Rattle.model.specs.Rows.{publish_rows, arbitrate_rows}
+use Rattle.model.specs.Rows.{publish_rows}
 use Rattle.model.specs.World.{World}
 use Rattle.model.proofs.Balancing.{always-balanced}
 use Rattle.model.proofs.Valuing.{always-valued}

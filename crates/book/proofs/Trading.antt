@@ -1,8 +1,7 @@
 -- A trade is made.
-use Rattle.std.proofs.Common.{◌≡◌, ℕ, ◌+◌, ◌*◌, ◌<◌, ◌&&◌, ◌||◌, drop, nat_le, not, Bool, true, false, cond, List, [], ◌∷◌, ◌++◌, length, ℤ, pos, ◌+ℤ◌, ◌-ℤ◌, nat_lt, get_or, Some, None, Option, slice_get, refl, sym, ap, ◌∙◌, arith}
+use Rattle.std.proofs.Common.{◌≡◌, ℕ, ◌<◌, ◌&&◌, ◌||◌, drop, nat_le, not, Bool, true, false, cond, List, [], ◌∷◌, ◌++◌, length, ℤ, pos, ◌+ℤ◌, ◌-ℤ◌, nat_lt, Some, None, Option, refl, sym, ap, ◌∙◌, arith}
 use borrow.Author.Differences.{ints}
 use Rattle.std.specs.Bool.{◌==◌}
-use Rattle.std.specs.Option.{unwrap_or, option_map}
 use Rattle.std.proofs.lemmas.Bool.Decides.{nat_tests}
 use Rattle.amounts.specs.declared.trades.Trade.{Trade}
 use Rattle.amounts.specs.Tables.{place_of}
@@ -21,8 +20,7 @@ use Rattle.model.specs.World.{World}
 use Rattle.model.proofs.Allowing.{open-on}
 use Rattle.model.proofs.Moving.{positions-move}
 use Rattle.model.proofs.Sizes.{tables-limited}
-use Rattle.book.specs.declared.ledger.MonthRow.{MonthRow}
-use Rattle.book.specs.Causes.{day_in, days_in, expiry_in, trade_rows_in, InTables}
+use Rattle.book.specs.Causes.{day_in, days_in, trade_rows_in, InTables}
 use Rattle.book.specs.Changes.{changed_at, moved, after_trade}
 use Rattle.book.specs.Tables.{Tables, KeepsPositions, KeepsTables}
 use Rattle.book.proofs.Changing.{get_or-changed, length-changed}

@@ -1,5 +1,5 @@
 -- What calls change in the tables.
-use Rattle.std.specs.Prelude.{◌==◌, cond, ℕ, ◌+◌, ◌*◌, ◌++◌, ℤ, pos, ◌+ℤ◌, ◌-ℤ◌, zero, suc, List, [], ◌∷◌, length, map, Some, None}
+use Rattle.std.specs.Prelude.{◌==◌, cond, ℕ, ◌++◌, ℤ, pos, ◌+ℤ◌, ◌-ℤ◌, zero, suc, List, [], ◌∷◌, length, map, Some, None}
 use Rattle.std.specs.Option.{unwrap_or}
 use Rattle.std.specs.Int.{int_wrap, w64}
 use Rattle.book.specs.declared.ledger.AccountRow.{AccountRow}

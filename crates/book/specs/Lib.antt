@@ -5,3 +5,5 @@ pub mod Changes
 pub mod Keeps
 pub mod Calls
 pub mod Returned
+pub mod Imported
+pub mod Closes

@@ -1,5 +1,5 @@
 -- What the tables of a book hold of a world and a history.
-use Rattle.std.specs.Prelude.{◌≡◌, ℕ, ◌+◌, ◌*◌, ◌<◌, List, [], length, map, replicate, ℤ, pos, Some, None, Option, slice_get, get_or}
+use Rattle.std.specs.Prelude.{◌≡◌, ℕ, ◌<◌, List, [], length, map, replicate, ℤ, pos, Some, None, Option, slice_get, get_or}
 use Rattle.amounts.specs.declared.trades.Trade.{Trade}
 use Rattle.amounts.specs.Tables.{place_of}
 use Rattle.pricing.specs.Pricing.{expiry_day, days_to}

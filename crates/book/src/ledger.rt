@@ -1,7 +1,7 @@
 // The tables of a book: plain, of fixed room, and of no calendar and no source.
 
 pub(crate) mod accounts;
-
+pub(crate) mod closes;
 pub(crate) mod months;
 pub(crate) mod trades;
 
@@ -58,7 +58,7 @@ impl Model for Ledger {
 }
 
 impl Ledger {
-    ghost use Rattle.std.specs.Prelude.{◌≡◌};
+    ghost use Rattle.std.specs.Prelude.{◌≡◌, ◌*◌, length};
     ghost use Rattle.book.specs.Tables.{no_tables};
 
     /// Empty tables.
@@ -77,5 +77,12 @@ impl Ledger {
             closed: None,
             unpaid: None,
         }
+    }
+
+    /// How many cells of accounts and months there are.
+    pub(crate) fn cells(&self) -> usize
+        ensures { result ≡ length self.now.accounts * length self.now.months }
+    {
+        self.accounts.len() * self.months.len()
     }
 }

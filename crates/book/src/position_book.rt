@@ -2,12 +2,13 @@
 ghost use Rattle.std.specs.Prelude.{◌≡◌, ℕ, ⊤, length, [], Some};
 ghost use Rattle.calendar.specs.Spans.{reserve_days};
 ghost use Rattle.refusal.specs.Refusals.{reason_of};
-ghost use Rattle.model.specs.Answers.{next_account, next_month, next_ticket, next_slip, price_now};
-ghost use Rattle.model.specs.Closes.{amounts_at_close, written_to};
-ghost use Rattle.model.specs.History.{Entered, Listed, Published, Arbitrated, Opened, Traded, Marked, Closed, Paid};
+ghost use Rattle.model.specs.Answers.{next_account, next_month, next_ticket, price_now};
+ghost use Rattle.model.specs.Closes.{cells_of};
+ghost use Rattle.model.specs.History.{History, Entered, Listed, Published, Arbitrated, Opened, Traded, Marked};
+ghost use Rattle.model.specs.World.{World};
 ghost use Rattle.model.specs.Observed.{trade_at};
 ghost use Rattle.model.specs.Positions.{position_of, paid_of, due_of};
-ghost use Rattle.model.specs.Rows.{enter_rows, list_rows, publish_rows, arbitrate_rows, open_rows, trade_rows, mark_rows, close_rows, pay_rows, position_rows, balance_rows};
+ghost use Rattle.model.specs.Rows.{enter_rows, list_rows, publish_rows, arbitrate_rows, open_rows, trade_rows, mark_rows, position_rows, balance_rows};
 ghost use Rattle.book.specs.Calls.{Called, Asked};
 ghost use Rattle.book.specs.Keeps.{world_of};
 
@@ -23,9 +24,9 @@ use refusal::Refusal;
 /// A position book: one calendar and one source of rates, of any make, and the tables.
 #[derive(Drop)]
 pub struct Book<C, S> {
-    calendar: C,
-    source: S,
-    ledger: Ledger,
+    pub(crate) calendar: C,
+    pub(crate) source: S,
+    pub(crate) ledger: Ledger,
 }
 
 /// What is meant by keeping a world and a history. No code is behind it.
@@ -52,6 +53,27 @@ impl<C: Calendar, S: RateSource> Book<C, S> {
             source,
             ledger: Ledger::new(number, start),
         }
+    }
+
+    /// The calendar on which the book stands.
+    pub fn calendar(&self) -> &C
+        ensures { result.now ≡ self.now.calendar }
+    {
+        &self.calendar
+    }
+
+    /// The source of rates on which it stands.
+    pub fn source(&self) -> &S
+        ensures { result.now ≡ self.now.source }
+    {
+        &self.source
+    }
+
+    /// How many amounts a close writes to each of its arrays: one for each account and month.
+    pub fn cells(&self) -> usize
+        ensures { (w : World) (h : History) → ⟦<Self as Kept>⟧.keeps w h self.now → result ≡ cells_of h }
+    {
+        self.ledger.cells()
     }
 
     /// Adds an account, and answers its index.

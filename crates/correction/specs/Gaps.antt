@@ -25,3 +25,7 @@ first_unrated rates days = first_in (filter (is_unrated rates) days)
 -- a price of a day, corrected over the reserve days from it, included, to another, excluded
 abbrev pub corrected_price : (ℕ → DayKind) → (ℕ → Option ℕ) → ℕ → ℕ → ℕ → ℕ
 corrected_price kinds rates from to price = corrected price (factors rates (reserve_days kinds from to))
+
+-- prices of that day, each corrected likewise
+abbrev pub corrected_prices : (ℕ → DayKind) → (ℕ → Option ℕ) → ℕ → ℕ → List ℕ → List ℕ
+corrected_prices kinds rates from to prices = map (corrected_price kinds rates from to) prices

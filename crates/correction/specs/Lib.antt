@@ -1,3 +1,3 @@
 pub mod Gaps
-pub mod Carrying
-pub mod Answers
+pub mod Errors
+pub mod Walks

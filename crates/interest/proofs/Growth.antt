@@ -1,5 +1,5 @@
 -- The power grows with the factor, and from 10^9 on with the exponent.
-use Rattle.std.proofs.Common.{◌≡◌, ℕ, zero, suc, ◌+◌, ◌-◌, ◌*◌, ◌/◌, ◌≤◌, refl, le_trans, add-zero, add-suc, add-one, mul-le-mul, mul-le-mul_left, arith, lit≤, ◌^◌, ◌<◌}
+use Rattle.std.proofs.Common.{◌≡◌, ℕ, zero, suc, ◌+◌, ◌-◌, ◌*◌, ◌/◌, ◌≤◌, refl, le_trans, add-zero, add-suc, add-one, mul-le-mul, mul-le-mul_left, arith, lit≤}
 use Rattle.interest.specs.Power.{power_of}
 
 pub power_zero : (f : ℕ) → power_of f 0 ≡ 1000000000
@@ -44,3 +44,5 @@ top = lit≤ tt
 -- no power in the range passes 3 * 10^9
 pub power-most : (f k : ℕ) → 1000000000 ≤ f → f ≤ 1004194304 → k ≤ 252 → power_of f k ≤ 3000000000
 power-most f k h l m = le_trans (power-longer f k 252 h m) (le_trans (power-mono f 1004194304 252 l) top)
+
+pub ruleset powers = (power_zero, power-next, power-most)

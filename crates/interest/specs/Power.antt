@@ -1,5 +1,5 @@
 -- Powers of a factor with nine decimals, where 10^9 means 1, and the root of 252.
-use Rattle.std.specs.Prelude.{ℕ, zero, suc, ◌+◌, ◌*◌, ◌/◌, ◌^◌, ◌≤◌, cond, nat_le}
+use Rattle.std.specs.Prelude.{◌≡◌, ℕ, zero, suc, ◌+◌, ◌*◌, ◌/◌, ◌^◌, ◌≤◌, cond, nat_le}
 use Rattle.interest.specs.declared.powers.TheConstants.{MAX_FACTOR}
 
 -- from 10^9 on, so many times: times the factor, by 10^9, fraction dropped
@@ -27,8 +27,12 @@ FactorRange f = (1000000000 ≤ f) × (f ≤ MAX_FACTOR)
 
 -- the factors and exponents of which a power is answered
 abbrev pub PowerRange : ℕ → ℕ → Type 0
-PowerRange f k = (1000000000 ≤ f) × (f ≤ MAX_FACTOR) × (k ≤ 252)
+PowerRange f k = FactorRange f × (k ≤ 252)
 
 -- the targets of which a root is answered
 abbrev pub RootRange : ℕ → Type 0
 RootRange t = (1000000000 ≤ t) × (t ≤ 2000000000)
+
+-- the powers of a factor and of the next one to k
+abbrev pub NeighbourPowers : ℕ → ℕ → ℕ → ℕ → Type 0
+NeighbourPowers f k lower upper = (lower ≡ power_of f k) × (upper ≡ power_of (f + 1) k)

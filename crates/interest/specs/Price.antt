@@ -1,4 +1,4 @@
--- Day factors of DI rates, and prices of dealt rates, by the root of what a rate makes of 1 in a year.
+-- Day factors of DI rates, and prices of dealt rates, by the root of what a year at the rate makes of 1.
 use Rattle.std.specs.Prelude.{◌≡◌, ℕ, zero, suc, ◌+◌, ◌*◌, ◌/◌, ◌%◌, ◌≤◌}
 use Rattle.interest.specs.Power.{power_of, Root, root_of}
 use Rattle.interest.specs.declared.di_rates.TheConstants.{MAX_DI_RATE}
@@ -21,26 +21,26 @@ after_days f m = 10000000000000000000 / power_of f m * 10000
 abbrev pub trade_price_by : ℕ → ℕ → ℕ → ℕ
 trade_price_by f r n = (after_years r (n / 252) (after_days f (n % 252)) + 5000000) / 10000000
 
--- both by the root as it is computed
+-- the same as functions, for other definitions to cite: by the computed root, which is the only one
 unfoldable pub day_factor : ℕ → ℕ
 day_factor d = day_factor_by (root_of (1000000000 + 10 * d))
 
 unfoldable pub trade_price : ℕ → ℕ → ℕ
 trade_price r n = trade_price_by (root_of (1000000000 + 10000 * r)) r n
 
--- g is the day factor of d millionths of a percent
+-- g is the day factor of the DI rate d, in millionths of a percent
 pub record DayFactor (d g : ℕ) : Type 0 where
   pub within : d ≤ MAX_DI_RATE
-  pub rule : (f : ℕ) × (Root (1000000000 + 10 * d) f × (g ≡ day_factor_by f))
+  pub by_root : (f : ℕ) × (Root (1000000000 + 10 * d) f × (g ≡ day_factor_by f))
   pub value : g ≡ day_factor d
   pub least : 100000000 ≤ g
   pub most : g ≤ 100275437
 
--- p is the price of a dealt rate r over n reserve days
+-- p is the price of the dealt rate r, in thousandths of a percent, over n reserve days
 pub record TradePrice (r n p : ℕ) : Type 0 where
   pub rate : r ≤ MAX_DEALT_RATE
   pub days : n ≤ MAX_RESERVE_DAYS
-  pub rule : (f : ℕ) × (Root (1000000000 + 10000 * r) f × (p ≡ trade_price_by f r n))
+  pub by_root : (f : ℕ) × (Root (1000000000 + 10000 * r) f × (p ≡ trade_price_by f r n))
   pub value : p ≡ trade_price r n
   pub least : 1 ≤ p
   pub most : p ≤ 10000000

@@ -13,7 +13,7 @@ pub const MAX_DI_RATE: u32 = 99_999_999;
 
 // A factor of nine decimals, rounded to eight.
 fn to_eight_decimals(factor: u64) -> u32
-    requires { factor ≤ 2000000000 }
+    requires { factor ≤ 2 * ONE }
     ensures { result ≡ (factor + 5) / 10 }
 {
     ((factor + 5) / 10) as u32
@@ -35,8 +35,8 @@ pub fn day_factor(rate: u32) -> Option<u32>
 
 /// The price after one reserve day of a day factor, or nothing where the product does not fit. The
 /// clause `rounded` is a law of the definition: over any days a corrected price is within half a
-/// centavo for each reserve day of the exact product, each corrected from the day after.
-#[tactic(auto, using(crate::proofs::Carried::rounded))]
+/// centavo for each reserve day of the exact product, each scaled by the days after it.
+#[tactic(auto, using(crate::proofs::Corrections::rounded))]
 pub fn correct_day(price: u64, factor: u32) -> Option<u64>
     ensures value { SomeIff result (price * factor + 50000000 < 2 ^ 64) (corrected_day price factor) }
     ensures rounded { Rounded }

@@ -12,6 +12,7 @@ pub(crate) const YEAR: u32 = 252;
 const MAX_FACTOR: u64 = 1_004_194_304;
 
 // The factor to the power of `times`, within the range.
+#[tactic(auto, using(crate::proofs::Growth::powers))]
 fn raise(factor: u64, times: u32) -> u64
     requires { PowerRange factor times }
     ensures { result ≡ power_of factor times }

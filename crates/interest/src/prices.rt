@@ -1,8 +1,9 @@
 // Prices of dealt rates.
-ghost use Rattle.std.specs.Prelude.{◌≡◌, ◌+◌, ◌/◌, ◌<◌, ◌≤◌, Some, MatchResult};
+ghost use Rattle.std.specs.Prelude.{◌≡◌, ◌+◌, ◌/◌, ◌^◌, ◌<◌, ◌≤◌, Some, MatchResult};
 ghost use Rattle.interest.specs.Figures.{FiguresHold};
 ghost use Rattle.interest.specs.Price.{TradePrice, after_years};
 ghost use Rattle.interest.specs.Refusal.{Refused, message};
+ghost use Rattle.interest.specs.declared.prices.TheConstants.{MAX_DEALT_RATE, MAX_RESERVE_DAYS};
 
 use crate::powers::{ONE, YEAR};
 use crate::reciprocals::Divisor;
@@ -38,7 +39,7 @@ impl std::error::Error for Unpriceable {}
 // A worth in units of 10^-9 of a point, rounded to hundredths of a point.
 // Kept: one rounding over a const parameter was tried; this and to_eight_decimals are still needed above it, for their bounds.
 fn to_centavos(worth: u64) -> u32
-    requires { worth ≤ 100000000000000 }
+    requires { worth ≤ 10 ^ 14 }
     ensures { result ≡ (worth + 5000000) / 10000000 }
 {
     ((worth + 5_000_000) / 10_000_000) as u32
@@ -49,8 +50,8 @@ fn to_centavos(worth: u64) -> u32
 struct Quote {
     rate: u32,
     days: u32,
-    ghost rate_limit: { rate ≤ 99999 },
-    ghost day_limit: { days ≤ 2520 },
+    ghost rate_limit: { rate ≤ MAX_DEALT_RATE },
+    ghost day_limit: { days ≤ MAX_RESERVE_DAYS },
 }
 
 impl Quote {
@@ -68,10 +69,11 @@ impl Quote {
     }
 
     // What is left of a worth after the whole years of discount.
+    #[tactic(auto, using(crate::proofs::Bounds::years))]
     fn discount(self, worth: u64) -> u64
-        requires { worth ≤ 100000000000000 }
-        ensures value { result ≡ after_years self.rate (self.days / 252) worth }
-        ensures most { result ≤ 100000000000000 }
+        requires { worth ≤ 10 ^ 14 }
+        ensures value { result ≡ after_years self.rate (self.days / YEAR) worth }
+        ensures most { result ≤ 10 ^ 14 }
     {
         let year = Divisor::new(100_000 + self.rate as u64);
         let mut left = worth;
@@ -103,9 +105,3 @@ pub fn trade_price(rate: u32, days: u32) -> Result<u32, Unpriceable>
 {
     Ok(Quote::new(rate, days)?.price())
 }
-
-/// The figures in the tables of docs/RULES.md are what the definitions give.
-#[tactic(auto, using(crate::proofs::Marked::figures))]
-pub fn figures_hold()
-    ensures { FiguresHold }
-{}

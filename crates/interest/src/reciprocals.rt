@@ -1,6 +1,7 @@
 // Products and quotients without a division, by the high word of one product.
 ghost use Rattle.std.specs.Prelude.{◌≡◌, ◌+◌, ◌-◌, ◌*◌, ◌/◌, ◌^◌, ◌<◌, ◌≤◌};
 ghost use Rattle.interest.specs.Power.{FactorRange};
+ghost use Rattle.interest.specs.declared.powers.TheConstants.{ONE};
 
 use crate::powers::ONE;
 
@@ -11,7 +12,7 @@ pub(crate) struct Multiplier {
     // What the factor adds to 1, in parts of 2^64, rounded down, and one part more.
     excess: u64,
     ghost range: { FactorRange factor },
-    ghost exact: { excess ≡ (factor - 1000000000) * 2 ^ 64 / 1000000000 + 1 },
+    ghost exact: { excess ≡ (factor - ONE) * 2 ^ 64 / ONE + 1 },
 }
 
 impl Multiplier {
@@ -27,8 +28,8 @@ impl Multiplier {
 
     // A power times the factor, fraction dropped.
     pub(crate) fn multiply(self, power: u64) -> u64
-        requires { power ≤ 3000000000 }
-        ensures { result ≡ power * self.factor / 1000000000 }
+        requires { power ≤ 3 * ONE }
+        ensures { result ≡ power * self.factor / ONE }
     {
         power + power.carrying_mul(self.excess, 0).1
     }

@@ -1,8 +1,7 @@
 // The root of 252: the greatest factor whose power to 252 is at most a target.
 ghost use Rattle.std.specs.Ordering.{MatchOrdering};
-ghost use Rattle.std.specs.Prelude.{◌≡◌, ◌+◌, ◌<◌, ◌≤◌, MatchOption};
-ghost use Rattle.interest.specs.Power.{FactorRange, Root, RootRange, power_of, root_of};
-ghost use Rattle.interest.specs.Trial.{NeighbourPowers};
+ghost use Rattle.std.specs.Prelude.{◌≡◌, ◌+◌, ◌*◌, ◌/◌, ◌<◌, ◌≤◌, MatchOption};
+ghost use Rattle.interest.specs.Power.{FactorRange, NeighbourPowers, Root, RootRange, power_of, root_of};
 
 use crate::powers::{ONE, YEAR};
 use crate::reciprocals::Multiplier;
@@ -38,9 +37,10 @@ impl Neighbours {
     }
 
     // Goes on from the powers to some times to those to more times.
+    #[tactic(auto, using(crate::proofs::Growth::powers))]
     fn raise(self, powers: Powers, from: u32, to: u32) -> Powers
         requires from { NeighbourPowers self.lower.factor from powers.lower powers.upper }
-        requires times { (from ≤ to) × (to ≤ 252) }
+        requires times { (from ≤ to) × (to ≤ YEAR) }
         ensures { NeighbourPowers self.lower.factor to result.lower result.upper }
     {
         let mut lower = powers.lower;
@@ -53,10 +53,11 @@ impl Neighbours {
     }
 
     // Both to 252, with the lower one's power to so many days met on the way.
+    #[tactic(auto, using(crate::proofs::Growth::powers))]
     fn trial(self, days: u32) -> Trial
-        requires { days ≤ 252 }
+        requires { days ≤ YEAR }
         ensures power { result.power ≡ power_of self.lower.factor days }
-        ensures year { NeighbourPowers self.lower.factor 252 result.year.lower result.year.upper }
+        ensures year { NeighbourPowers self.lower.factor YEAR result.year.lower result.year.upper }
     {
         let start = Powers {
             lower: ONE,
@@ -78,7 +79,7 @@ struct Trial {
 }
 
 impl Trial {
-    // The factor beside the root of a target.
+    // How the lower factor stands to the root of a target.
     fn compare(self, target: u64) -> Ordering
         ensures { MatchOrdering result (self.year.upper ≤ target) ((self.year.lower ≤ target) × (target < self.year.upper)) (target < self.year.lower) }
     {
@@ -101,12 +102,13 @@ pub(crate) struct FoundRoot {
 
 // What stands for 1 in a logarithm, and in what is made of it.
 const UNIT: u64 = 1 << 32;
+
 const FINE_UNIT: u64 = 1 << 40;
 
 // The logarithm of (1 + s) / (1 - s), nearly: twice the sum of s, s^3 / 3, s^5 / 5 and so on, seven terms.
 fn logarithm(s: u64) -> u64
-    requires { s ≤ 1431655766 }
-    ensures { result ≤ 3233400000 }
+    requires { s ≤ UNIT / 3 }
+    ensures { result ≤ 3 * UNIT / 4 }
 {
     let z = s * s / UNIT;
     let mut sum = 0;
@@ -138,11 +140,12 @@ impl Target {
     // The greatest factor whose power to 252 is at most the target, and its power to so many days:
     // a factor at most the target, when the next one passes it.
     pub(crate) fn root(self, days: u32) -> FoundRoot
-        requires { days ≤ 252 }
+        requires { days ≤ YEAR }
         ensures root { Root self.value result.factor }
+        ensures value { result.factor ≡ root_of self.value }
         ensures power { result.power ≡ power_of result.factor days }
         ensures most { result.factor ≤ MAX_ROOT }
-        ensures least { 1000000000 ≤ result.power }
+        ensures least { ONE ≤ result.power }
     {
         let mut factor = self.guess().clamp(ONE, MAX_ROOT);
         loop {

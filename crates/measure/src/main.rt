@@ -1,12 +1,14 @@
-// Prices, day factors, corrections and trade sheets in bulk, over numbers that every run repeats.
+// Prices, day factors, corrections, trade sheets and closes in bulk, over numbers that every run repeats.
 #![tactic(auto)]
 
+mod closes;
 mod figures;
 mod gaps;
 mod numbers;
 mod sheets;
 
 use anyhow::anyhow;
+use closes::closes;
 use figures::{factors, prices};
 use gaps::corrections;
 use sheets::sheets;
@@ -14,7 +16,7 @@ use std::alloc::Global;
 use std::process::ExitCode;
 use std::{env, io};
 
-const HELP: &str = "a command is prices N, factors N, corrections N or sheets N";
+const HELP: &str = "a command is prices N, factors N, corrections N, sheets N or closes N";
 
 // What a command prints.
 fn answer(heap: Global, command: &str, count: u32) -> anyhow::Result<String> {
@@ -29,6 +31,7 @@ fn answer(heap: Global, command: &str, count: u32) -> anyhow::Result<String> {
             let total = sheets(heap, count)?;
             Ok(format!(in heap; "{count} sheets, {total}")?)
         }
+        "closes" => Ok(format!(in heap; "{count} closes, sum {}", closes(count))?),
         _ => Err(anyhow!(HELP)),
     }
 }

@@ -1,4 +1,4 @@
-// TradeLine sheets written, read back and priced.
+// Trade sheets written, read back and priced.
 ghost use Rattle.std.specs.Prelude.{◌≤◌};
 
 use crate::numbers::Numbers;
@@ -14,13 +14,13 @@ const SESSION: u16 = 9_860;
 
 // Lines, priced lines, and the sum of the prices and of the buyers in price, with 1 for a line that is not priced.
 #[derive(Clone, Copy, Default)]
-pub struct Total {
+pub struct SheetFigures {
     lines: u64,
     priced: u64,
     sum: u64,
 }
 
-impl fmt::Display for Total {
+impl fmt::Display for SheetFigures {
     fn fmt<W: fmt::Write>(&self, f: &mut fmt::Formatter<W>) -> fmt::Result {
         write!(
             f,
@@ -30,7 +30,7 @@ impl fmt::Display for Total {
     }
 }
 
-impl Total {
+impl SheetFigures {
     // Adds a line.
     fn add(&mut self, calendar: &RuleCalendar, trade: TradeLine) {
         self.lines = self.lines.wrapping_add(1);
@@ -64,7 +64,7 @@ fn line_count(numbers: &mut Numbers) -> u32
 // Makes the trades of a sheet, writes them, and adds the sheet as it is read back.
 fn next_sheet(
     heap: Global,
-    total: &mut Total,
+    total: &mut SheetFigures,
     calendar: &RuleCalendar,
     numbers: &mut Numbers,
 ) -> Result<(), AllocError> {
@@ -81,14 +81,14 @@ fn next_sheet(
 }
 
 // The total of so many sheets.
-pub(crate) fn sheets(heap: Global, count: u32) -> Result<Total, AllocError> {
+pub(crate) fn sheets(heap: Global, count: u32) -> Result<SheetFigures, AllocError> {
     let closed = Exception {
         day: 9_862,
         kind: DayKind::ClosedDay,
     };
     let calendar = RuleCalendar::new(heap, &[closed])?;
     let mut numbers = Numbers::new();
-    let mut total = Total::default();
+    let mut total = SheetFigures::default();
     for _ in 0..count {
         next_sheet(heap, &mut total, &calendar, &mut numbers)?;
     }

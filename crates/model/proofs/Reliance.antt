@@ -14,7 +14,7 @@ use Rattle.correction.specs.Gaps.{factor_on, factors, corrected_price}
 use Rattle.interest.specs.Correction.{corrected_day, corrected}
 use Rattle.interest.specs.Price.{day_factor}
 use Rattle.interest.proofs.Bounds.{day-factor-most}
-use Rattle.interest.proofs.Carried.{corrected-none, corrected-first}
+use Rattle.interest.proofs.Corrections.{corrected-none, corrected-first}
 use Rattle.amounts.specs.Amounts.{adjustment_of}
 use Rattle.amounts.specs.Trades.{contracts_of, position_change}
 use Rattle.rates.specs.Meanings.{or_else}

@@ -13,7 +13,7 @@ use Rattle.calendar.specs.Spans.{reserve_days}
 use Rattle.calendar.proofs.Spans.{days-split}
 use Rattle.correction.specs.Gaps.{factor_on, factors, corrected_price}
 use Rattle.interest.specs.Rounding.{drift}
-use Rattle.interest.proofs.Carried.{combine, rounded}
+use Rattle.interest.proofs.Corrections.{combine, rounded}
 use Rattle.interest.proofs.Ring.{expands, sums, abs-mul}
 use Rattle.amounts.specs.declared.trades.Trade.{Trade}
 use Rattle.amounts.specs.Sums.{total}

@@ -1,9 +1,10 @@
 -- The price of a trade on a calendar, and the causes for which it has none.
-use Rattle.std.specs.Prelude.{◌≡◌, ℕ, ◌-◌, Bool, cond, not, List, [], ◌∷◌, codes, length, is_some, Some, None, Option, Result, MatchResult, nat_le, nat_lt}
+use Rattle.std.specs.Prelude.{ℕ, ◌-◌, Bool, cond, not, List, [], ◌∷◌, codes, length, is_some, Option, nat_le, nat_lt}
 use Rattle.std.specs.Option.{unwrap_or}
 use Rattle.dates.specs.Months.{month_of}
 use Rattle.calendar.specs.declared.kind.DayKind.{DayKind}
 use Rattle.calendar.specs.Spans.{expiry_of, reserve_days}
+use Rattle.interest.specs.declared.prices.TheConstants.{MAX_DEALT_RATE, MAX_RESERVE_DAYS}
 use Rattle.interest.specs.declared.prices.Unpriceable.{Unpriceable}
 use Rattle.interest.specs.declared.prices.Unpriceable.TheVariants as prices
 use Rattle.interest.specs.Price.{trade_price}
@@ -32,38 +33,32 @@ abbrev pub pricing_rows : (ℕ → DayKind) → ℕ → TradeLine → List (Bool
 pricing_rows kinds session trade =
     (not (is_some (expiry_of kinds trade.month)), NoSession)
     ∷ (nat_le (expiry_day kinds trade.month) session, Expired)
-    ∷ (nat_lt 99999 trade.rate, RateTooHigh)
+    ∷ (nat_lt MAX_DEALT_RATE trade.rate, RateTooHigh)
     ∷ (not (on_tick trade.rate (distance session trade.month)), OffTick)
-    ∷ (nat_lt 2520 (days_to kinds session trade.month), TooFar)
+    ∷ (nat_lt MAX_RESERVE_DAYS (days_to kinds session trade.month), TooFar)
     ∷ []
 
--- why a trade is not priced, if it is not
-abbrev pub unpriced : (ℕ → DayKind) → ℕ → TradeLine → Option Cause
-unpriced kinds session trade = first_row (pricing_rows kinds session trade)
+-- the first cause for which a trade is not priced, if there is one
+abbrev pub first_cause : (ℕ → DayKind) → ℕ → TradeLine → Option Cause
+first_cause kinds session trade = first_row (pricing_rows kinds session trade)
 
 -- no cause holds
 abbrev pub is_priced : (ℕ → DayKind) → ℕ → TradeLine → Bool
-is_priced kinds session trade = not (is_some (unpriced kinds session trade))
+is_priced kinds session trade = not (is_some (first_cause kinds session trade))
 
 -- the sides in price: the buyer in rate sells, the seller in rate buys
-abbrev pub turned : TradeLine → Sides
-turned trade = record { buyer = trade.seller; seller = trade.buyer }
+abbrev pub in_price : TradeLine → Sides
+in_price trade = record { buyer = trade.seller; seller = trade.buyer }
 
 -- a trade in price, with the sides turned
-abbrev pub in_price : (ℕ → DayKind) → ℕ → TradeLine → PricedTrade
-in_price kinds session trade = record {
-  buyer = (turned trade).buyer;
-  seller = (turned trade).seller;
+abbrev pub priced_trade : (ℕ → DayKind) → ℕ → TradeLine → PricedTrade
+priced_trade kinds session trade = record {
+  buyer = (in_price trade).buyer;
+  seller = (in_price trade).seller;
   expiry = expiry_day kinds trade.month;
   days = days_to kinds session trade.month;
   price = trade_price trade.rate (days_to kinds session trade.month);
 }
-
--- the answer: the trade in price where no cause holds, else the first cause
-abbrev pub Answer : (ℕ → DayKind) → ℕ → TradeLine → Result PricedTrade Cause → Type 0
-Answer kinds session trade r =
-    MatchResult r (λ p. (unpriced kinds session trade ≡ None) × (p ≡ in_price kinds session trade))
-    (λ c. unpriced kinds session trade ≡ Some c)
 
 -- the cause that a rate without a price is
 abbrev pub unpriceable_cause : Unpriceable → Cause

@@ -9,7 +9,7 @@ use crate::trades::price_trade;
 use calendar::kind::Calendar;
 use sheet::{SheetView, TradeLine};
 
-// A choice of trades.
+/// A choice of trades.
 // Kept: of a closure's choice the totals could say only what its `post` says, and callers would owe its `pre`.
 pub trait Pick {
     ghost picked: { Self → TradeLine → Bool };
@@ -18,7 +18,7 @@ pub trait Pick {
         ensures { result ≡ picked self.now trade };
 }
 
-// Every trade.
+/// Every trade.
 #[derive(Clone, Copy, Debug)]
 pub struct AnyTrade;
 
@@ -30,7 +30,7 @@ impl Pick for AnyTrade {
     }
 }
 
-// The trades of a month.
+/// The trades of a month.
 #[derive(Clone, Copy, Debug)]
 pub struct InMonth {
     pub month: u32,
@@ -44,7 +44,7 @@ impl Pick for InMonth {
     }
 }
 
-// The trades of a session that are priced on a calendar.
+/// The trades of a session that are priced on a calendar.
 #[derive(Drop)]
 pub struct OnCalendar<'a, C> {
     pub calendar: &'a C,
@@ -59,14 +59,14 @@ impl<C: Calendar> Pick for OnCalendar<'_, C> {
     }
 }
 
-// How many lines, and how many contracts in them.
+/// How many lines, and how many contracts in them.
 #[derive(Clone, Copy, PartialEq, Eq, Debug)]
 pub struct Tally {
     pub lines: u32,
     pub contracts: u64,
 }
 
-// Adds up the trades of a sheet that are picked.
+/// Adds up the trades of a sheet that are picked.
 pub fn add_up<P: Pick>(view: &SheetView<'_>, pick: &P) -> Tally
     ensures { Tallied (P.picked pick.now) (view_trades view.now) result }
 {

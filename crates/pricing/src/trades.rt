@@ -1,6 +1,7 @@
 // The price of a trade on a calendar, or why it has none.
-ghost use Rattle.std.specs.Prelude.{◌≡◌, Some};
-ghost use Rattle.pricing.specs.Pricing.{Answer, message, turned, unpriceable_cause};
+ghost use Rattle.std.specs.Prelude.{◌≡◌, Some, IfOk};
+ghost use Rattle.std.specs.Result.{result_err};
+ghost use Rattle.pricing.specs.Pricing.{first_cause, in_price, priced_trade, message, unpriceable_cause};
 
 use calendar::kind::Calendar;
 use calendar::span::{count_reserve_days, expiry};
@@ -10,16 +11,16 @@ use sheet::TradeLine;
 use std::error::Error;
 use std::fmt;
 
-// Who buys and who sells in price.
+/// Who buys and who sells in price.
 #[derive(Clone, Copy, PartialEq, Eq, Debug)]
 pub struct Sides {
     pub buyer: u8,
     pub seller: u8,
 }
 
-// The sides of a trade turned into price: a buyer in rate is a seller in price.
+/// The sides of a trade turned into price: a buyer in rate is a seller in price.
 pub fn in_price(trade: TradeLine) -> Sides
-    ensures { result ≡ turned trade }
+    ensures { result ≡ in_price trade }
 {
     Sides {
         buyer: trade.seller,
@@ -27,7 +28,8 @@ pub fn in_price(trade: TradeLine) -> Sides
     }
 }
 
-// A trade in price: who buys, who sells, when it expires, after how many reserve days, at what price.
+/// A trade in price: who buys, who sells, the day of the expiry, the reserve days to it, and the
+/// price in hundredths of a point.
 // Kept: the definition of a trade in price has these five fields; one of Sides in place of two would lengthen every read.
 #[derive(Clone, Copy, PartialEq, Eq, Debug)]
 pub struct PricedTrade {
@@ -38,7 +40,8 @@ pub struct PricedTrade {
     pub price: u32,
 }
 
-// Why a trade is not priced.
+/// Why a trade is not priced: its month has no session at all; it does not expire after the
+/// session; its rate is too high, or off the tick of its distance; it is too far from its expiry.
 // Kept: the causes stand in the order of the rules, with the tick between those of Unpriceable.
 #[derive(Clone, Copy, PartialEq, Eq, Debug)]
 pub enum Cause {
@@ -77,13 +80,14 @@ impl From<Unpriceable> for Cause {
     }
 }
 
-// Prices a trade of a session.
+/// Prices a trade of a session by its rate, if no cause holds; else the first that does.
 pub fn price_trade<C: Calendar>(
     calendar: &C,
     session: u32,
     trade: TradeLine,
 ) -> Result<PricedTrade, Cause>
-    ensures { Answer (C.kinds calendar.now) session trade result }
+    ensures cause { result_err result ≡ first_cause (C.kinds calendar.now) session trade }
+    ensures value { IfOk result (λ p. p ≡ priced_trade (C.kinds calendar.now) session trade) }
 {
     let expiry = expiry(calendar, trade.month).ok_or(Cause::NoSession)?;
     if expiry <= session {

@@ -10,7 +10,8 @@ use rates::error::Error;
 use sheet::{SheetFault, WriteFault};
 use std::fmt;
 
-// An unmarked month comes with its index, a missing rate with its day.
+/// Why a call is refused, in the order of the numbers. An unmarked month comes with its index, a
+/// missing rate with its day.
 #[derive(Clone, Copy, PartialEq, Eq, Debug)]
 pub enum Refusal {
     NotCurrent,
@@ -42,7 +43,7 @@ pub enum Refusal {
 }
 
 impl Refusal {
-    // The number of the cause.
+    /// The number of the cause, from 1 to 26.
     // Kept: `u32::from(refusal)` would not say that it is the number of the row.
     pub fn number(self) -> u32
         ensures { result ≡ (reason_of self).number }
@@ -138,7 +139,7 @@ impl fmt::Display for Refusal {
 
 impl std::error::Error for Refusal {}
 
-// Tells what the error of the source tells.
+/// A rate that is not published or not arbitrated.
 impl From<Error> for Refusal {
     ghost from_gives = { λ error refusal. reason_of refusal ≡ rate_errors.reason_of error };
 
@@ -153,16 +154,19 @@ impl From<Error> for Refusal {
     }
 }
 
-// A sheet that is not read is a bad sheet, whatever its fault.
+/// A sheet that is not read is a bad sheet, whatever its fault.
 impl From<SheetFault> for Refusal {
     ghost from_gives = { λ fault refusal. reason_of refusal ≡ fault_reason fault };
 
-    fn from(_fault: SheetFault) -> Refusal {
-        Refusal::BadSheet
+    fn from(fault: SheetFault) -> Refusal {
+        match fault {
+            SheetFault::Length | SheetFault::Count | SheetFault::Day => Refusal::BadSheet,
+            SheetFault::Code(_) => Refusal::BadSheet,
+        }
     }
 }
 
-// A sheet that is not written.
+/// A sheet that is not written: the array is short, or the sheet is bad.
 impl From<WriteFault> for Refusal {
     ghost from_gives = { λ fault refusal. reason_of refusal ≡ write_reason fault };
 

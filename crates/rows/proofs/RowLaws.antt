@@ -1,6 +1,6 @@
 -- Laws of tables of refusals.
-use Rattle.std.proofs.Common.{◌≡◌, Bool, true, false, cond, List, [], ◌∷◌, ◌++◌, Some, None, Ok, Err, Option, Result, refl, ap, sym, ◌∙◌, arith}
-use Rattle.rows.specs.Rows.{Reason, first_row, reason_by}
+use Rattle.std.proofs.Common.{◌≡◌, Bool, true, false, cond, List, [], ◌∷◌, ◌++◌, Some, None, Ok, Err, Option, Result, option_map, refl, ap, sym, ◌∙◌, arith}
+use Rattle.rows.specs.Rows.{Reason, first_row, reasons_of, reason_by}
 
 -- the first row does not refuse, nor do those after it
 pub none-first : {A : Type 0} (b : Bool) (t : A) (o : Option A) → cond b (Some t) o ≡ None → (b ≡ false) × (o ≡ None)
@@ -27,7 +27,17 @@ pub first-late : {A : Type 0} (rows more : List (Bool × A)) → None ≡ first_
 first-late [] more h = refl
 first-late (row ∷ rows) more h = let rest = first-late rows more in grind (arith, rest)
 
--- an error that tells what the callee's error tells is refused by the row that refused there
+-- the reason of the first error is the first reason
+pub reason-first : {E : Type 0} (reason_of : E → Reason) (rows : List (Bool × E)) → option_map reason_of (first_row rows) ≡ first_row (reasons_of reason_of rows)
+reason-first reason_of [] = refl
+reason-first reason_of (row ∷ rows) = by row.0 (reason-first reason_of rows)
+  where
+    by : (b : Bool) → option_map reason_of (first_row rows) ≡ first_row (reasons_of reason_of rows)
+        → option_map reason_of (cond b (Some row.1) (first_row rows)) ≡ cond b (Some (reason_of row.1)) (first_row (reasons_of reason_of rows))
+    by true e = refl
+    by false e = e
+
+-- an error of the reason of the callee's error stands for the row that refused there
 pub reason-turned : {T E D : Type 0} (from : E → Reason) (to : D → Reason) (r : Result T E) (e : E) (d : D) (o : Option Reason)
     → r ≡ Err e → to d ≡ from e → reason_by from r ≡ o → Some (to d) ≡ o
 reason-turned {T = T} {E = E} from to r e d o is same by = ap Some same ∙ ap (λ (x : Result T E). reason_by from x) (sym is) ∙ by

@@ -1,5 +1,5 @@
-// A settlement price carried over the reserve days of a gap, day by day.
-use crate::failure::{Complaint, Failure, said, told};
+// A settlement price corrected over the reserve days of a gap, day by day.
+use crate::failure::{Complaint, Failure, in_words, or_no_such};
 use crate::figures::{
     Counted, DI_PLACES, FACTOR_PLACES, Fixed, PRICE_PLACES, Points, RATE_TOO_HIGH, day_of, decimal,
 };
@@ -16,14 +16,14 @@ use std::fmt;
 const HEADING: &str = "reserve day     rate %  source          factor       price\n";
 
 // The greatest settlement price.
-const MOST_PRICE: u32 = 10_000_000;
+const MAX_PRICE: u32 = 10_000_000;
 
 // The gap that three words say.
 fn gap_of<'a>(from: &'a str, to: &'a str, price: &'a str) -> Result<Gap, Complaint<'a>> {
     let from = day_of(from)?;
     let to = day_of(to)?;
-    let price = told("no price", price, decimal(price, PRICE_PLACES))?;
-    if price == 0 || price > MOST_PRICE {
+    let price = or_no_such("no price", price, decimal(price, PRICE_PLACES))?;
+    if price == 0 || price > MAX_PRICE {
         return Err(Complaint::Words("price not from 0.01 to 100 000.00"));
     }
     if to < from {
@@ -51,7 +51,7 @@ impl fmt::Display for LastAlone {
     }
 }
 
-// A gap, and the office by whose calendar and rates its price is carried.
+// A gap, and the office by whose calendar and rates its price is corrected.
 #[derive(Clone, Copy)]
 struct Correction<'a> {
     office: &'a Office,
@@ -59,8 +59,8 @@ struct Correction<'a> {
 }
 
 impl Correction<'_> {
-    // The price carried to a day.
-    fn carried_to(&self, to: u32) -> Result<Points, Uncorrected> {
+    // The price corrected to a day.
+    fn corrected_to(&self, to: u32) -> Result<Points, Uncorrected> {
         let Gap { from, price, .. } = self.gap;
         let gap = Gap { from, to, price };
         let hundredths = correct(&self.office.calendar, &self.office.rates, gap)?;
@@ -102,7 +102,7 @@ impl Correction<'_> {
         let mut last = None;
         for day in self.gap.from..self.gap.to {
             if self.office.calendar.kind(day).is_reserve() {
-                let price = self.carried_to(day + 1)?;
+                let price = self.corrected_to(day + 1)?;
                 let rate = self.rate_on(day)?;
                 let factor = day_factor(rate).ok_or(Complaint::Words(RATE_TOO_HIGH))?;
                 last = Some(factor);
@@ -126,7 +126,7 @@ impl Correction<'_> {
         let start = Points {
             hundredths: price as u64,
         };
-        let corrected = self.carried_to(to)?;
+        let corrected = self.corrected_to(to)?;
         let (rows, last) = self.rows(heap)?;
         let days = Counted {
             count: count_reserve_days(&self.office.calendar, from, to) as u64,
@@ -141,7 +141,7 @@ impl Correction<'_> {
     }
 }
 
-// Carries a settlement price over a gap by the office's calendar and rates.
+// Corrects a settlement price over a gap by the office's calendar and rates.
 pub(crate) fn correct_gap(
     rt: &HostRuntime,
     office: &str,
@@ -151,10 +151,10 @@ pub(crate) fn correct_gap(
 ) -> Result<String, Failure> {
     let heap = rt.alloc();
     let office = read_office(rt, office)?;
-    let gap = said(heap, gap_of(from, to, price))?;
+    let gap = in_words(heap, gap_of(from, to, price))?;
     let correction = Correction {
         office: &office,
         gap,
     };
-    said(heap, correction.print(heap))
+    in_words(heap, correction.print(heap))
 }

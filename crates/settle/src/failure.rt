@@ -33,8 +33,9 @@ pub(crate) enum Complaint<'a> {
     Memory(#[from(alloc)] AllocError),
 }
 
-impl From<Refusal> for Complaint<'_> {
-    fn from(refusal: Refusal) -> Self {
+impl From<rates::error::Error> for Complaint<'_> {
+    fn from(error: rates::error::Error) -> Self {
+        let refusal = Refusal::from(error);
         Complaint::Refused {
             number: refusal.number(),
             refusal,
@@ -46,7 +47,7 @@ impl From<Refusal> for Complaint<'_> {
 pub(crate) enum Failure {
     // in these words
     #[error("{0}")]
-    Said(String),
+    InWords(String),
     // at a line of a text file
     #[error("{file}:{line}: {words}")]
     AtLine {
@@ -77,12 +78,12 @@ impl Complaint<'_> {
 }
 
 // What the words of a command gave.
-pub(crate) fn said<T: Drop>(heap: Global, answer: Result<T, Complaint<'_>>) -> Result<T, Failure> {
-    answer.try_map_err(|complaint| Ok(Failure::Said(complaint.words(heap)?)))
+pub(crate) fn in_words<T: Drop>(heap: Global, answer: Result<T, Complaint<'_>>) -> Result<T, Failure> {
+    answer.try_map_err(|complaint| Ok(Failure::InWords(complaint.words(heap)?)))
 }
 
 // What a word gave, or a complaint that names it.
-pub(crate) fn told<'a, T: Drop>(
+pub(crate) fn or_no_such<'a, T: Drop>(
     what: &'static str,
     word: &'a str,
     value: Option<T>,

@@ -1,7 +1,7 @@
 // Rates, factors and prices as people write them.
 ghost use Rattle.std.specs.Prelude.{◌≤◌, IfOk};
 
-use crate::failure::{Complaint, told};
+use crate::failure::{Complaint, or_no_such};
 use dates::Date;
 use interest::{day_factor, trade_price};
 use std::alloc::Global;
@@ -95,7 +95,7 @@ pub(crate) fn decimal(text: &str, places: u32) -> Option<u32> {
 pub(crate) fn day_of<'a>(word: &'a str) -> Result<u32, Complaint<'a>>
     ensures { IfOk result (λ day. day ≤ 36524) }
 {
-    let date = told("no date", word, word.parse::<Date>().ok())?;
+    let date = or_no_such("no date", word, Date::parse(word).ok())?;
     Ok(date.day_number())
 }
 
@@ -104,8 +104,8 @@ pub(crate) fn price<'a>(
     rate: &'a str,
     days: &'a str,
 ) -> Result<String, Complaint<'a>> {
-    let dealt = told("no rate", rate, decimal(rate, RATE_PLACES))?;
-    let count = told("no number", days, number(days))?;
+    let dealt = or_no_such("no rate", rate, decimal(rate, RATE_PLACES))?;
+    let count = or_no_such("no number", days, number(days))?;
     let price = Points {
         hundredths: trade_price(dealt, count)? as u64,
     };
@@ -113,7 +113,7 @@ pub(crate) fn price<'a>(
 }
 
 pub(crate) fn factor<'a>(heap: Global, rate: &'a str) -> Result<String, Complaint<'a>> {
-    let di = told("no rate", rate, decimal(rate, DI_PLACES))?;
+    let di = or_no_such("no rate", rate, decimal(rate, DI_PLACES))?;
     let factor = Fixed {
         value: day_factor(di).ok_or(Complaint::Words(RATE_TOO_HIGH))?,
         places: FACTOR_PLACES,

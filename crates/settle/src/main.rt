@@ -9,7 +9,7 @@ mod report;
 mod sheets;
 mod texts;
 
-use failure::{Complaint, Failure, said};
+use failure::{Complaint, Failure, in_words};
 use std::process::ExitCode;
 use std::{env, io};
 
@@ -27,7 +27,7 @@ settle help                          this list
 fn words(rt: &HostRuntime) -> Result<Vec<String>, Failure> {
     let heap = rt.alloc();
     let refused = Complaint::Words("a word of the command is not UTF-8");
-    let given = said(heap, env::args(rt).map_err(|_| refused))?;
+    let given = in_words(heap, env::args(rt).map_err(|_| refused))?;
     Ok(given.skip(1).collect(heap)?)
 }
 
@@ -41,10 +41,10 @@ fn answer(rt: &HostRuntime, words: &[&str]) -> Result<String, Failure> {
         }
         ["sheet", "show", file] => sheets::show(rt, file),
         ["sheet", "make", text, file] => sheets::make(rt, text, file),
-        ["price", rate, days] => said(heap, figures::price(heap, rate, days)),
-        ["factor", rate] => said(heap, figures::factor(heap, rate)),
+        ["price", rate, days] => in_words(heap, figures::price(heap, rate, days)),
+        ["factor", rate] => in_words(heap, figures::factor(heap, rate)),
         ["help"] => Ok(String::from_str(heap, HELP)?),
-        _ => said(
+        _ => in_words(
             heap,
             Err(Complaint::Words("unknown command; try: settle help")),
         ),

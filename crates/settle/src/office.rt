@@ -3,24 +3,25 @@
 ghost use Rattle.settle.specs.Office.{office_kinds};
 ghost use Rattle.std.proofs.Common.{rules};
 
-use crate::failure::{Complaint, Failure, Source, said, told};
+use crate::failure::{Complaint, Failure, Source, in_words, or_no_such};
 use crate::figures::{DI_PLACES, day_of, decimal, number};
 use crate::texts::{Line, lines_of, read_from};
 use calendar::kind::{Calendar, DayKind};
 use calendar::marked::MarkedCalendar;
 use calendar::rule::{Exception, RuleCalendar};
+use dates::LAST_DAY;
 use rates::entry::DayRate;
-use rates::layer::Arbitrated;
-use rates::source::Publishing;
+use rates::layer::ArbitrationLayer;
+use rates::source::{Arbitrating, Publishing};
 use rates::table::TableSource;
 use std::alloc::{AllocError, Global};
 use std::fs;
 
-// The most days of a table of rates.
-const MOST_RATES: u32 = 36_525;
+// The most days of a table of rates: those of the calendar.
+const MAX_TABLE_DAYS: u32 = LAST_DAY + 1;
 
 // Published rates, and above them arbitrated ones.
-pub(crate) type OfficeRates = Arbitrated<TableSource>;
+pub(crate) type OfficeRates = ArbitrationLayer<TableSource>;
 
 // The calendar of an office, of either make.
 #[derive(Drop)]
@@ -64,7 +65,7 @@ struct Draft {
 
 // A table of rates under a layer, with no rates yet.
 fn new_rates(heap: Global, first: u32, count: u32) -> Result<OfficeRates, AllocError> {
-    Ok(Arbitrated::new(heap, TableSource::empty(heap, first, count)?)?)
+    Ok(ArbitrationLayer::new(TableSource::empty(heap, first, count)?))
 }
 
 fn kind_of_day(word: &str) -> Option<DayKind> {
@@ -83,7 +84,7 @@ fn exception<'a>(words: &[&'a str]) -> Result<Exception, Complaint<'a>> {
     };
     Ok(Exception {
         day: day_of(date)?,
-        kind: told("no kind of day", kind, kind_of_day(kind))?,
+        kind: or_no_such("no kind of day", kind, kind_of_day(kind))?,
     })
 }
 
@@ -93,8 +94,8 @@ fn rates_line<'a>(heap: Global, words: &[&'a str]) -> Result<OfficeRates, Compla
         return Err(Complaint::Words("expected: rates table FIRST COUNT"));
     };
     let first = day_of(first)?;
-    let count = told("no number", count, number(count))?;
-    if count > MOST_RATES {
+    let count = or_no_such("no number", count, number(count))?;
+    if count > MAX_TABLE_DAYS {
         return Err(Complaint::Words("over 36525 days"));
     }
     Ok(new_rates(heap, first, count)?)
@@ -107,7 +108,7 @@ fn day_rate<'a>(expected: &'static str, words: &[&'a str]) -> Result<DayRate, Co
     };
     Ok(DayRate {
         day: day_of(date)?,
-        rate: told("no rate", percent, decimal(percent, DI_PLACES))?,
+        rate: or_no_such("no rate", percent, decimal(percent, DI_PLACES))?,
     })
 }
 
@@ -194,7 +195,7 @@ impl Draft {
 pub(crate) fn read_office(rt: &HostRuntime, file: &str) -> Result<Office, Failure> {
     let heap = rt.alloc();
     let source = Source { heap, file };
-    let text = said(heap, read_from(file, fs::read_to_string(rt, file)))?;
+    let text = in_words(heap, read_from(file, fs::read_to_string(rt, file)))?;
     let lines = lines_of(heap, text.as_str())?;
     let Some((first, rest)) = lines.as_slice().split_first() else {
         return source.at_line(1, Err(Complaint::Words("no calendar line")));

@@ -1,5 +1,5 @@
 // The lines of a sheet priced on the office's calendar, and their totals.
-use crate::failure::{Complaint, Failure, Source, said};
+use crate::failure::{Complaint, Failure, Source, in_words};
 use crate::figures::{Counted, Fixed, Points, RATE_PLACES};
 use crate::office::{OfficeCalendar, read_office};
 use crate::sheets::{Code, view};
@@ -33,12 +33,12 @@ fn contracts(count: u64) -> Counted {
 
 // One line of totals: of all, what is priced and what is not.
 #[derive(Clone, Copy)]
-struct Total {
+struct TotalLine {
     all: Counted,
     priced: u64,
 }
 
-impl fmt::Display for Total {
+impl fmt::Display for TotalLine {
     fn fmt<W: fmt::Write>(&self, f: &mut fmt::Formatter<W>) -> fmt::Result {
         let left = self.all.count.saturating_sub(self.priced);
         writeln!(
@@ -134,11 +134,11 @@ impl Report<'_> {
         let calendar = self.calendar;
         let session = self.view.day();
         let priced = add_up(&self.view, &OnCalendar { calendar, session });
-        let of_lines = Total {
+        let of_lines = TotalLine {
             all: lines(all.lines),
             priced: priced.lines as u64,
         };
-        let of_contracts = Total {
+        let of_contracts = TotalLine {
             all: contracts(all.contracts),
             priced: priced.contracts,
         };
@@ -181,7 +181,7 @@ impl Report<'_> {
 pub(crate) fn prices(rt: &HostRuntime, office: &str, file: &str) -> Result<String, Failure> {
     let heap = rt.alloc();
     let office = read_office(rt, office)?;
-    let bytes = said(heap, read_from(file, fs::read(rt, file)))?;
+    let bytes = in_words(heap, read_from(file, fs::read(rt, file)))?;
     let source = Source { heap, file };
     let view = view(&source, bytes.as_slice())?;
     let number = view.day();

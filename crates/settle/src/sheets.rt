@@ -1,9 +1,10 @@
 // Sheets as text and back.
-use crate::failure::{Complaint, Failure, Source, said, told};
+use crate::failure::{Complaint, Failure, Source, in_words, or_no_such};
 use crate::figures::{Counted, Fixed, RATE_PLACES, day_of, decimal, number};
 use crate::texts::{Line, lines_of, read_from};
+use amounts::MAX_TRADES;
 use dates::Day;
-use sheet::{ContractCode, MAX_TRADES, SheetFault, SheetView, TradeLine, read, write};
+use sheet::{ContractCode, SheetFault, SheetView, TradeLine, read, write};
 use std::alloc::{AllocError, Global};
 use std::{fmt, fs};
 
@@ -68,11 +69,11 @@ impl fmt::Display for Code {
 
 // A trade as a line of text.
 #[derive(Clone, Copy)]
-struct TradeLine {
+struct LineText {
     trade: TradeLine,
 }
 
-impl fmt::Display for TradeLine {
+impl fmt::Display for LineText {
     fn fmt<W: fmt::Write>(&self, f: &mut fmt::Formatter<W>) -> fmt::Result {
         let TradeLine {
             buyer,
@@ -93,12 +94,12 @@ impl fmt::Display for TradeLine {
 // A sheet as text.
 pub(crate) fn show(rt: &HostRuntime, file: &str) -> Result<String, Failure> {
     let heap = rt.alloc();
-    let bytes = said(heap, read_from(file, fs::read(rt, file)))?;
+    let bytes = in_words(heap, read_from(file, fs::read(rt, file)))?;
     let view = view(&Source { heap, file }, bytes.as_slice())?;
     let day = Day { number: view.day() };
     let mut text = format!(in heap; "session {day}\n")?;
     for trade in view.trades() {
-        write!(text, "{}", TradeLine { trade })?;
+        write!(text, "{}", LineText { trade })?;
     }
     Ok(text)
 }
@@ -126,16 +127,16 @@ fn trade<'a>(words: &[&'a str]) -> Result<TradeLine, Complaint<'a>> {
     let ["trade", buyer, seller, code, rate, quantity] = words else {
         return Err(Complaint::Words("expected: trade BUYER SELLER CODE RATE QUANTITY"));
     };
-    let buyer = told("no account", buyer, account(buyer))?;
-    let seller = told("no account", seller, account(seller))?;
+    let buyer = or_no_such("no account", buyer, account(buyer))?;
+    let seller = or_no_such("no account", seller, account(seller))?;
     let contract = ContractCode::from_bytes(code.as_bytes());
-    let contract = told("no contract code", code, contract)?;
+    let contract = or_no_such("no contract code", code, contract)?;
     Ok(TradeLine {
         buyer,
         seller,
         month: contract.month(),
-        rate: told("no rate", rate, decimal(rate, RATE_PLACES))?,
-        quantity: told("no quantity", quantity, number(quantity))?,
+        rate: or_no_such("no rate", rate, decimal(rate, RATE_PLACES))?,
+        quantity: or_no_such("no quantity", quantity, number(quantity))?,
     })
 }
 
@@ -152,7 +153,7 @@ fn later_line<'a>(before: usize, words: &[&'a str]) -> Result<TradeLine, Complai
         }
         [] => return Err(Complaint::Words("no word")),
     };
-    if before >= MAX_TRADES as usize {
+    if before >= MAX_TRADES {
         return Err(Complaint::Words("over 256 trades"));
     }
     Ok(trade)
@@ -191,10 +192,10 @@ fn sheet_of(source: &Source<'_>, text: &str) -> Result<(usize, Vec<u8>), Failure
 // Writes the sheet that a text describes.
 pub(crate) fn make(rt: &HostRuntime, text: &str, file: &str) -> Result<String, Failure> {
     let heap = rt.alloc();
-    let lines = said(heap, read_from(text, fs::read_to_string(rt, text)))?;
+    let lines = in_words(heap, read_from(text, fs::read_to_string(rt, text)))?;
     let (count, bytes) = sheet_of(&Source { heap, file: text }, lines.as_str())?;
     let written = fs::write(rt, file, bytes.as_slice());
-    said(heap, written.map_err(|_| Complaint::CannotWrite(file)))?;
+    in_words(heap, written.map_err(|_| Complaint::CannotWrite(file)))?;
     let trades = Counted {
         count: count as u64,
         one: "trade",

@@ -1,5 +1,5 @@
 // Months in the tables: listed, marked, and made ready for a session.
-ghost use Rattle.std.specs.Prelude.{◌≡◌, ◌==◌, ◌<◌, ◌≤◌, ◌++◌, ◌∷◌, [], None, Some, true, is_some, IfOk, IfSome, OnOk, length, map};
+ghost use Rattle.std.specs.Prelude.{◌≡◌, nat_lt, ◌==◌, ◌<◌, ◌≤◌, ◌++◌, ◌∷◌, [], None, Some, true, is_some, IfOk, IfSome, OnOk, length, map};
 ghost use Rattle.std.specs.List.{list_any, position};
 ghost use Rattle.std.specs.Option.{unwrap_or};
 ghost use Rattle.model.specs.References.{is_of};
@@ -59,6 +59,13 @@ impl Ledger {
         ensures { result ≡ place_in (map (λ row. row.number) self.now.months) number }
     {
         row_place(&self.months, number) as u8
+    }
+
+    /// Whether a month has this index.
+    pub(crate) fn has_index(&self, month: u8) -> bool
+        ensures { result ≡ nat_lt month (length self.now.months) }
+    {
+        (month as usize) < self.months.len()
     }
 
     /// Whether the ticket is of the open session.

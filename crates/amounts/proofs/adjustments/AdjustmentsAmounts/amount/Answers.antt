@@ -1,5 +1,4 @@
-use Rattle.std.proofs.Common.{◌≡◌, ◌∙◌, ap, get_or, pos, arith, rules, w32, w64, to_z, of_z}
-use Rattle.std.specs.Int.{int_wrap}
+use Rattle.std.proofs.Common.{◌≡◌, ◌∙◌, get_or, arith, w32, w64, to_z, of_z}
 use Rattle.std.proofs.lemmas.Int.{ints}
 use Rattle.amounts.specs.Amounts.{adjustment_of, carried_in}
 use Rattle.amounts.specs.Closes.{position_in}
@@ -12,13 +11,13 @@ pub adjustment-requires-clause-bought : goal.adjustment-requires-clause-bought
 adjustment-requires-clause-bought c =
     let h = c.args.self.now.summed in
     let e = h.bought.each c.args.account c.args.month no_sum c.requires.account c.requires.month in
-    rw c.place-at.ensures (search (rules, sum-bounded))
+    rw c.place-at.ensures (sum-bounded Bought c.args.account c.args.month c.args.self.now.trades.now c.args.self.now.sums.now _ h e)
 
 pub adjustment-requires-clause-sold : goal.adjustment-requires-clause-sold
 adjustment-requires-clause-sold c =
     let h = c.args.self.now.summed in
     let e = h.sold.each c.args.account c.args.month no_sum c.requires.account c.requires.month in
-    rw c.place-at.ensures (search (rules, sum-bounded))
+    rw c.place-at.ensures (sum-bounded Sold c.args.account c.args.month c.args.self.now.trades.now c.args.self.now.sums.now _ h e)
 
 pub returns : goal.returns
 returns c =
@@ -29,10 +28,10 @@ returns c =
     let place = c.place-at.ensures in
     let bought : IsSideSum Bought ts a m (get_or s.sums.now.bought c.place-at.result no_sum) = rw place (s.summed.bought.each a m no_sum c.requires.account c.requires.month) in
     let sold : IsSideSum Sold ts a m (get_or s.sums.now.sold c.place-at.result no_sum) = rw place (s.summed.sold.each a m no_sum c.requires.account c.requires.month) in
-    let held : to_z w32 (of_z w32 c.position_at-position.result) ≡ position_in s.positions.now a m =
-    (omega (arith, ints)) ∙ c.position_at-position.ensures ∙ ap (λ i. get_or s.positions.now i (pos 0)) place in
+    let fits = c.position_in-position.ensures.most in
+    let held : to_z w32 (of_z w32 c.position_in-position.result) ≡ position_in s.positions.now a m = omega (arith, ints) ∙ c.position_in-position.ensures.value in
     let prices = c.month_prices-prices.ensures in
     let same : to_z w64 (of_z w64 c.adjustment.result) ≡ c.adjustment.result = omega (arith, ints) in
     same ∙ c.adjustment.ensures
-    ∙ ap (int_wrap w64) (adjustment-is a m ts _ _ _ _ bought sold)
-    ∙ (λ i. int_wrap w64 (adjustment_of a m (prices i).settlement ts (carried_in a m ts (held i)) (prices i).corrected))
+    ∙ adjustment-is a m ts _ _ _ _ bought sold
+    ∙ (λ i. adjustment_of a m (prices i).settlement ts (carried_in a m ts (held i)) (prices i).corrected)

@@ -1,4 +1,4 @@
-use Rattle.interest.specs.Trial.{NeighbourPowers}
+use Rattle.interest.specs.Power.{NeighbourPowers}
 use Rattle.interest.proofs.roots.Neighbours.raise.Given as goal
 
 abbrev pub invariant-loop-done : goal.invariant-loop-done

@@ -1,0 +1,4 @@
+pub mod Topmost
+pub mod Standing
+pub mod Runs
+pub mod Acts
