@@ -171,7 +171,11 @@ fn trades(source: &Source<'_>, lines: &[Line]) -> Result<Vec<TradeLine>, Failure
 }
 
 // The bytes of the sheet of these trades.
-fn sheet_bytes(heap: Global, day: u16, trades: &[TradeLine]) -> Result<Vec<u8>, Complaint<'static>> {
+fn sheet_bytes(
+    heap: Global,
+    day: u16,
+    trades: &[TradeLine],
+) -> Result<Vec<u8>, Complaint<'static>> {
     let mut bytes = vec![in heap; 0u8; 4 + 16 * trades.len()]?;
     write(day, trades, bytes.as_mut_slice()).map_err(|_| Complaint::Words("no sheet"))?;
     Ok(bytes)
