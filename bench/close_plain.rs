@@ -5,6 +5,7 @@ use std::process::ExitCode;
 
 const MAX_TRADES: usize = 256;
 const MAX_CONTRACTS: u32 = 20_000;
+const MAX_POSITION: u32 = 500_000;
 const MAX_ACCOUNTS: usize = 32;
 const MAX_MONTHS: usize = 16;
 const CELLS: usize = MAX_ACCOUNTS * MAX_MONTHS;
@@ -88,14 +89,19 @@ fn take(cells: &mut [FirstContracts; CELLS], party: u8, trade: Trade) {
     cell.value += contracts as u64 * trade.price as u64;
 }
 
+fn within_limit(position: i32) -> i32 {
+    if position.unsigned_abs() > MAX_POSITION {
+        return 0;
+    }
+    position
+}
+
 fn adjustment(bought: SideSum, sold: SideSum, position: i32, prices: MonthPrices) -> i64 {
-    let position = position as i64;
+    let change = bought.contracts as i64 - sold.contracts as i64;
     let cost = bought.value as i64 - sold.value as i64;
-    let carried = position - (bought.contracts as i64 - sold.contracts as i64);
-    let settled = position.wrapping_mul(prices.settlement as i64);
-    settled
-        .wrapping_sub(cost)
-        .wrapping_sub(carried.wrapping_mul(prices.corrected as i64))
+    let traded = change * prices.settlement as i64 - cost;
+    let carried = within_limit(position) as i64 - change;
+    traded + carried * (prices.settlement as i64 - prices.corrected as i64)
 }
 
 struct Session {
@@ -229,7 +235,11 @@ fn walk_firsts(trades: &[Trade], count: u32, side_of: impl Fn(&Trade) -> u32) ->
 fn walk_day_trade(trades: &[Trade], account: u8, month: u8) -> i64 {
     let bought = |trade: &Trade| side(trade, trade.seller, account, month);
     let sold = |trade: &Trade| side(trade, trade.buyer, account, month);
-    let count = trades.iter().map(bought).sum::<u32>().min(trades.iter().map(sold).sum());
+    let count = trades
+        .iter()
+        .map(bought)
+        .sum::<u32>()
+        .min(trades.iter().map(sold).sum());
     walk_firsts(trades, count, sold) as i64 - walk_firsts(trades, count, bought) as i64
 }
 

@@ -72,6 +72,6 @@ fn full_session(rt: HostRuntime) {
     }
     assert!(rt; session.is_full());
     assert!(rt; !session.accept(largest));
-    let all = adjustments(&mut session, 3, 0, (-5_120_000, 5_120_000));
+    let all = adjustments(&mut session, 3, 3, (-500_000, 500_000));
     assert_eq!(rt; all, [-10_240_000, 10_240_000, 7]);
 }

@@ -12,9 +12,9 @@ use Rattle.std.proofs.lemmas.Option.{slice_get_within, slice_get_cases}
 use Rattle.std.proofs.Math.Seq.{take-append_seam, drop-append-add}
 use Rattle.correction.specs.Gaps.{factors}
 use Rattle.interest.specs.Correction.{corrected}
-use Rattle.interest.proofs.Carried.{corrected-none}
+use Rattle.interest.proofs.Corrections.{corrected-none}
 use Rattle.amounts.specs.Amounts.{adjustment_of, carried_in}
-use Rattle.amounts.specs.Closes.{adjustment_in, prices_of, no_prices, position_in, FitsWithinLimit}
+use Rattle.amounts.specs.Closes.{adjustment_in, prices_of, no_prices, position_in, within_limit}
 use Rattle.amounts.specs.DayTrades.{day_trade}
 use Rattle.amounts.specs.Rows as rows
 use Rattle.amounts.specs.Sums.{total}
@@ -33,7 +33,8 @@ use Rattle.model.specs.World.{World}
 use Rattle.model.proofs.Cells.{in-book, listed-written}
 use Rattle.model.proofs.Dues.{dues-move}
 use Rattle.model.proofs.Moving.{positions-move}
-use Rattle.model.proofs.Reliance.{carried-before, carried-limited, price-limited, corrected-limited, adjustment-seen}
+use Rattle.model.proofs.Limits.{positions-limited}
+use Rattle.model.proofs.Reliance.{carried-before, corrected-limited, adjustment-seen}
 use Rattle.model.proofs.Sizes.{tables-limited}
 use Rattle.model.proofs.Sums.{close-within, nothing-due}
 use Rattle.book.specs.declared.ledger.AccountRow.{AccountRow}
@@ -109,6 +110,10 @@ row-total : (n k a : ℕ) (f : ℕ → ℕ → ℤ) (old : List ℤ) → a < n �
 row-total n k a f old below =
     ap (total (λ z. z)) (row-stands k f (drop (n * k) old) n 0 a below ∙ ap (λ i. rows.row_of k (f i)) (let e : 0 + a ≡ a = omega arith in e)) ∙ total-map (f a) (range_with_len 0 k)
 
+-- a position within the limit counts as it is
+within-limit : (position : ℤ) → unsigned_abs position ≤ 500000 → within_limit position ≡ position
+within-limit position few = grind (arith, nat_tests)
+
 module _ (w : World) (h : History) (t : Tables) (bounded : RatesLimited (rate_on w h)) (l : Lawful w h) (k : KeepsTables w h t) where
   pub prices-told : (m : ℕ) (row : MonthRow) → slice_get t.months m ≡ Some row
       → prices_over (rate_on w h) (day_in t) (gap_in w.kinds t) row ≡ record { settlement = settlement_price w h m; corrected = corrected_to w (rate_on w h) (session_day h) (sessions_of w h) m }
@@ -120,35 +125,33 @@ module _ (w : World) (h : History) (t : Tables) (bounded : RatesLimited (rate_on
       rw (day, k.session.closed, latest, corrected-told w (rate_on w h) (session_day h) m (sessions_of w h), whole, settlement-told w h t m row k at) refl
 
   -- the adjustments of the accounts and months of the book
-  adjustment-told : (prices : List MonthPrices) (d a m : ℕ) → prices ≡ map (prices_over (rate_on w h) (day_in t) (gap_in w.kinds t)) t.months → FitsWithinLimit t.session.trades prices t.positions
+  adjustment-told : (prices : List MonthPrices) (d a m : ℕ) → prices ≡ map (prices_over (rate_on w h) (day_in t) (gap_in w.kinds t)) t.months
       → open_session h ≡ Some d → a < length (accounts_of h) → m < length (months_of h)
-      → int_wrap w64 (adjustment_in t.session.trades prices t.positions a m) ≡ (amounts_at_close w h).adjustments a m
-  adjustment-told prices d a m is exact opens la lm =
+      → adjustment_in t.session.trades prices t.positions a m ≡ (amounts_at_close w h).adjustments a m
+  adjustment-told prices d a m is opens la lm =
       let most = tables-limited w h l in
       let trades = k.session.trades in
-      let position : position_in t.positions a m ≡ position_of w h a m = k.positions.each a m (omega (arith, most.0)) (omega (arith, most.1)) in
+      let position : position_in t.positions a m ≡ position_of w h a m =
+      ap within_limit (k.positions.each a m (omega (arith, most.0)) (omega (arith, most.1))) ∙ within-limit (position_of w h a m) (positions-limited w h a m l) in
       let carried : carried_in a m t.session.trades (position_in t.positions a m) ≡ carried_of w h a m =
       (λ i. carried_in a m (trades i) (position i)) ∙ sym (carried-before w h d a m l opens) in
-      let price = price-limited w h l m in
-      let few = corrected-limited w h m l bounded in
       elim (slice_get_cases t.months m).1 [
         | inl row ↦
             let x : prices_of prices m ≡ record { settlement = settlement_price w h m; corrected = corrected_to w (rate_on w h) (session_day h) (sessions_of w h) m } =
             ap (λ ps. prices_of ps m) is ∙ get_or-map (prices_over (rate_on w h) (day_in t) (gap_in w.kinds t)) t.months m row.0 no_prices row.1
             ∙ ap (prices_over (rate_on w h) (day_in t) (gap_in w.kinds t)) row.3 ∙ prices-told m row.0 row.2 in
-            exact a m (rw carried (carried-limited w h a m l)) (rw x (omega arith)) (rw x (omega arith))
-            ∙ (λ i. adjustment_of a m (x i).settlement (trades i) (carried_in a m (trades i) (position i)) (x i).corrected)
+            (λ i. adjustment_of a m (x i).settlement (trades i) (carried_in a m (trades i) (position i)) (x i).corrected)
             ∙ sym (adjustment-seen w h d a m l opens) ∙ sym (in-book h (adjustment_at w h) a m (la, lm))
         | inr past ↦ absurd (omega (arith, month-count h w t.months k.months, past.0))
       ]
 
   pub adjusted-told : (prices : List MonthPrices) (d : ℕ) (old : List ℤ) → prices ≡ map (prices_over (rate_on w h) (day_in t) (gap_in w.kinds t)) t.months
-      → FitsWithinLimit t.session.trades prices t.positions → open_session h ≡ Some d
-      → rows.written_to (length t.accounts) (length t.months) (λ a m. int_wrap w64 (adjustment_in t.session.trades prices t.positions a m)) old ≡ written_to h (amounts_at_close w h).adjustments old
-  adjusted-told prices d old is exact opens =
+      → open_session h ≡ Some d
+      → rows.written_to (length t.accounts) (length t.months) (adjustment_in t.session.trades prices t.positions) old ≡ written_to h (amounts_at_close w h).adjustments old
+  adjusted-told prices d old is opens =
       let n = account-count h t.accounts k.accounts in
       let months = month-count h w t.months k.months in
-      rw (n, months) (written-same _ _ _ _ old (λ a m la lm. adjustment-told prices d a m is exact opens la lm))
+      rw (n, months) (written-same _ _ _ _ old (λ a m la lm. adjustment-told prices d a m is opens la lm))
 
   pub day_traded-told : (old : List ℤ) → rows.written_to (length t.accounts) (length t.months) (λ a m. day_trade a m t.session.trades) old ≡ written_to h (amounts_at_close w h).day_trades old
   day_traded-told old =

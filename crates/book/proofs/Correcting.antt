@@ -1,6 +1,7 @@
 -- The latest prices corrected over the gap, one day after another.
-use Rattle.std.proofs.Common.{◌≡◌, ℕ, ◌+◌, ◌*◌, ◌<◌, ◌≤◌, true, false, cond, not, List, [], ◌∷◌, ◌++◌, map, is_some, Some, None, filter, Option, refl, sym, ap, ◌∙◌, inl, inr, mul-le-mul_right, arith}
+use Rattle.std.proofs.Common.{◌≡◌, Bool, ℕ, ◌+◌, ◌*◌, ◌<◌, ◌≤◌, true, false, cond, not, List, [], ◌∷◌, ◌++◌, map, is_some, Some, None, filter, Option, Result, Ok, Err, refl, sym, ap, ◌∙◌, inl, inr, mul-le-mul_right, arith}
 use Rattle.std.specs.Option.{unwrap_or}
+use Rattle.std.specs.Result.{IsErrAnd}
 use Rattle.std.proofs.lemmas.Bool.{cases_lt}
 use Rattle.std.proofs.lemmas.List.Elements.{filter-append}
 use Rattle.std.proofs.lemmas.List.{append-nil, map-append}
@@ -11,12 +12,12 @@ use Rattle.calendar.specs.Spans.{reserve_days, first_in}
 use Rattle.calendar.proofs.Spans.{days-none, days-more, days-split, days-head}
 use Rattle.correction.specs.Gaps.{factor_on, factors, is_unrated, first_unrated}
 use Rattle.interest.specs.Correction.{corrected, corrected_day}
-use Rattle.interest.specs.Price.{day_factor}
 use Rattle.interest.proofs.Bounds.{day-factor-least}
-use Rattle.interest.proofs.Carried.{corrected-none, corrected-more}
+use Rattle.interest.proofs.Corrections.{corrected-none, corrected-more}
+use Rattle.rows.specs.Rows.{Reason, reason_by}
 use Rattle.model.specs.Sessions.{gap_since}
 use Rattle.book.specs.declared.ledger.MonthRow.{MonthRow}
-use Rattle.book.specs.Closes.{saturated, prices_over, prices_before, prices_after}
+use Rattle.book.specs.Closes.{saturated, prices_over, prices_before, prices_after, Corrects, Unrated}
 
 map-same : {X Y : Type 0} (f g : X → Y) (xs : List X) → ((x : X) → f x ≡ g x) → map f xs ≡ map g xs
 map-same f g xs same = λ i. map (λ x. same x i) xs
@@ -65,42 +66,41 @@ module _ (kinds : ℕ → DayKind) (rates : ℕ → Option ℕ) (session from : 
         begun = λ _. refl;
       }
 
-  -- a day that is no reserve day changes nothing
-  pub walk-past : (day : ℕ) (prices : List MonthPrices) → from ≤ day → day < session → is_reserve (kinds day) ≡ false
-      → Walked kinds rates session from rows day prices → Walked kinds rates session from rows (day + 1) prices
-  walk-past day prices after before closed x =
-      let same : reserve_days kinds from (day + 1) ≡ reserve_days kinds from day =
-      days-more is_reserve kinds from day after ∙ ap (λ b. reserve_days kinds from day ++ cond b (day ∷ []) []) closed ∙ append-nil (reserve_days kinds from day) in
-      record { rated = ap (filter (is_unrated rates)) same ∙ x.rated; corrected = rw same x.corrected; begun = λ late. absurd (omega arith) }
-
-  -- a reserve day with a rate
-  pub walk-over : (day rate factor : ℕ) (prices next : List MonthPrices) → from ≤ day → day < session → is_reserve (kinds day) ≡ true → rates day ≡ Some rate → factor ≡ day_factor rate
-      → next ≡ map (prices_after factor) prices
+  -- one day on
+  pub walk-next : (day : ℕ) (prices next : List MonthPrices) → from ≤ day → day < session → Corrects kinds rates day prices next
       → Walked kinds rates session from rows day prices → Walked kinds rates session from rows (day + 1) next
-  walk-over day rate factor prices next after before reserve known by_rate is x =
-      let days = reserve_days kinds from day in
-      let own : factor ≡ factor_on rates day = by_rate ∙ ap (λ o. day_factor (unwrap_or o 0)) (sym known) in
-      let more : reserve_days kinds from (day + 1) ≡ days ++ day ∷ [] =
-      days-more is_reserve kinds from day after ∙ ap (λ b. days ++ cond b (day ∷ []) []) reserve in
-      record {
-        rated = ap (filter (is_unrated rates)) more ∙ filter-append (is_unrated rates) days (day ∷ []) ∙ ap (λ xs. xs ++ filter (is_unrated rates) (day ∷ [])) x.rated
-            ∙ ap (λ o. cond (not (is_some o)) (day ∷ []) []) known;
-        corrected = is ∙ ap (λ g. map (prices_after g) prices) own ∙ ap (map (prices_after (factor_on rates day))) x.corrected ∙ map-both _ _ rows ∙ map-same _ _ rows (over-more rates session days day)
-            ∙ ap (λ ds. map (prices_over rates session ds) rows) (sym more);
-        begun = λ late. absurd (omega arith);
-      }
+  walk-next day prices next after before x so_far = by (is_reserve (kinds day)) refl
+    where
+      by : (b : Bool) → is_reserve (kinds day) ≡ b → Walked kinds rates session from rows (day + 1) next
+      by true reserve =
+          let days = reserve_days kinds from day in
+          let more : reserve_days kinds from (day + 1) ≡ days ++ day ∷ [] = days-more is_reserve kinds from day after ∙ ap (λ b. days ++ cond b (day ∷ []) []) reserve in
+          let is : next ≡ map (prices_after (factor_on rates day)) prices = x.prices ∙ ap (λ b. cond b (map (prices_after (factor_on rates day)) prices) prices) reserve in
+          record {
+            rated = ap (filter (is_unrated rates)) more ∙ filter-append (is_unrated rates) days (day ∷ []) ∙ ap (λ xs. xs ++ filter (is_unrated rates) (day ∷ [])) so_far.rated
+                ∙ ap (λ b. cond (not b) (day ∷ []) []) (x.rated reserve);
+            corrected = is ∙ ap (map (prices_after (factor_on rates day))) so_far.corrected ∙ map-both _ _ rows ∙ map-same _ _ rows (over-more rates session days day)
+                ∙ ap (λ ds. map (prices_over rates session ds) rows) (sym more);
+            begun = λ late. absurd (omega arith);
+          }
+      by false other =
+          let days = reserve_days kinds from day in
+          let same : reserve_days kinds from (day + 1) ≡ days =
+          days-more is_reserve kinds from day after ∙ ap (λ b. days ++ cond b (day ∷ []) []) other ∙ append-nil days in
+          let is : next ≡ prices = x.prices ∙ ap (λ b. cond b (map (prices_after (factor_on rates day)) prices) prices) other in
+          record { rated = ap (filter (is_unrated rates)) same ∙ so_far.rated; corrected = is ∙ rw same so_far.corrected; begun = λ late. absurd (omega arith) }
 
-  -- a reserve day without one is the first such day of the gap
-  pub walk-missing : (day : ℕ) (prices : List MonthPrices) → from ≤ day → day < session → is_reserve (kinds day) ≡ true → rates day ≡ None
+  -- a reserve day without a rate is the first such day of the gap
+  pub walk-missing : (day : ℕ) (prices : List MonthPrices) → from ≤ day → day < session → Unrated kinds rates day
       → Walked kinds rates session from rows day prices → first_unrated rates (reserve_days kinds from session) ≡ Some day
-  walk-missing day prices after before reserve none x =
+  walk-missing day prices after before none x =
       let days = reserve_days kinds from day in
       let rest = reserve_days kinds (day + 1) session in
       let whole : reserve_days kinds from session ≡ days ++ day ∷ rest =
       days-split is_reserve kinds from day session after (omega arith)
-      ∙ ap (λ xs. days ++ xs) (days-head is_reserve kinds day session before ∙ ap (λ b. cond b (day ∷ rest) rest) reserve) in
+      ∙ ap (λ xs. days ++ xs) (days-head is_reserve kinds day session before ∙ ap (λ b. cond b (day ∷ rest) rest) none.reserve) in
       ap (first_unrated rates) whole ∙ ap first_in (filter-append (is_unrated rates) days (day ∷ rest) ∙ ap (λ xs. xs ++ filter (is_unrated rates) (day ∷ rest)) x.rated)
-      ∙ ap (λ o. first_in (cond (not (is_some o)) (day ∷ filter (is_unrated rates) rest) (filter (is_unrated rates) rest))) none
+      ∙ ap (λ o. first_in (cond (not (is_some o)) (day ∷ filter (is_unrated rates) rest) (filter (is_unrated rates) rest))) none.unrated
 
   -- the days of the walk are those of the gap
   pub walk-end : (day : ℕ) (prices : List MonthPrices) → session ≤ day → (from ≤ session → day ≤ session) → Walked kinds rates session from rows day prices
@@ -113,6 +113,11 @@ module _ (kinds : ℕ → DayKind) (rates : ℕ → Option ℕ) (session from : 
       (ap first_in (ap (filter (is_unrated rates)) (sym all) ∙ x.rated), x.corrected ∙ ap (λ days. map (prices_over rates session days) rows) all)
 
 -- before the first close the gap is empty
-pub gap-is : (kinds : ℕ → DayKind) (closed : Option ℕ) (session today from : ℕ) → session ≡ today → from ≡ unwrap_or closed session → reserve_days kinds from session ≡ gap_since kinds closed today
-gap-is kinds None session today from same is = rw is (days-none is_reserve kinds session session (omega arith))
-gap-is kinds (Some d) session today from same is = rw (is, same) refl
+pub gap-is : (kinds : ℕ → DayKind) (closed : Option ℕ) (session from : ℕ) → from ≡ unwrap_or closed session → reserve_days kinds from session ≡ gap_since kinds closed session
+gap-is kinds None session from is = rw is (days-none is_reserve kinds session session (omega arith))
+gap-is kinds (Some d) session from is = rw is refl
+
+-- what an error that is handed on tells
+pub reason-is : {T E : Type 0} (reason : E → Reason) (e : E) (r : Result T E) → IsErrAnd r (λ y. y ≡ e) → reason_by reason r ≡ Some (reason e)
+reason-is reason e (Ok x) is = absurd is
+reason-is {E = E} reason e (Err y) is = ap (λ (z : E). Some (reason z)) is

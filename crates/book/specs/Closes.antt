@@ -1,12 +1,13 @@
 -- What a close looks at, writes and leaves, as the tables tell it.
-use Rattle.std.specs.Prelude.{ℕ, ◌+◌, ◌*◌, ◌%◌, min, Bool, false, cond, not, ◌&&◌, ◌||◌, List, [], ◌∷◌, ◌++◌, take, drop, length, ℤ, pos, ◌+ℤ◌, is_some, Option, nat_le, nat_lt, slice_get}
+use Rattle.std.specs.Prelude.{◌≡◌, true, None, map, ℕ, ◌+◌, ◌*◌, ◌%◌, min, Bool, false, cond, not, ◌&&◌, ◌||◌, List, [], ◌∷◌, ◌++◌, take, drop, length, ℤ, pos, ◌+ℤ◌, is_some, Option, nat_le, nat_lt, slice_get}
 use Rattle.std.specs.Int.{int_wrap, w64}
 use Rattle.std.specs.List.{position}
 use Rattle.std.specs.Option.{unwrap_or, option_map}
 use Rattle.amounts.specs.declared.adjustments.MonthPrices.{MonthPrices}
 use Rattle.amounts.specs.Sums.{total}
 use Rattle.calendar.specs.declared.kind.DayKind.{DayKind}
-use Rattle.correction.specs.Gaps.{factors}
+use Rattle.calendar.specs.Kinds.{is_reserve}
+use Rattle.correction.specs.Gaps.{factor_on, factors}
 use Rattle.interest.specs.Correction.{corrected, corrected_day}
 use Rattle.rows.specs.Rows.{Row, numbered}
 use Rattle.model.specs.References.{SessionReference, is_of}
@@ -63,6 +64,16 @@ prices_before day row = record { settlement = (priced day row).latest; corrected
 abbrev pub prices_after : ℕ → MonthPrices → MonthPrices
 prices_after factor prices = record prices { corrected = saturated (corrected_day prices.corrected factor) }
 
+-- a reserve day without a rate
+pub record Unrated (kinds : ℕ → DayKind) (rates : ℕ → Option ℕ) (day : ℕ) : Type 0 where
+  pub reserve : is_reserve (kinds day) ≡ true
+  pub unrated : rates day ≡ None
+
+-- the prices after a day: a reserve day has a rate, and its factor corrects them; any other day leaves them
+pub record Corrects (kinds : ℕ → DayKind) (rates : ℕ → Option ℕ) (day : ℕ) (old new : List MonthPrices) : Type 0 where
+  pub rated : is_reserve (kinds day) ≡ true → is_some (rates day) ≡ true
+  pub prices : new ≡ cond (is_reserve (kinds day)) (map (prices_after (factor_on rates day)) old) old
+
 -- ---- what is due and what is held afterwards
 
 -- a list with each element changed, by its index, the first being this
@@ -74,9 +85,13 @@ changed_each change i (x ∷ xs) = change i x ∷ changed_each change (i + 1) xs
 abbrev pub charged : ℤ → AccountRow → AccountRow
 charged amount row = record row { due = int_wrap w64 (row.due +ℤ amount) }
 
--- to each account is due what stands in its row of k cells
+-- the row of an account in cells with k months to an account
+abbrev pub row_in : ℕ → List ℤ → ℕ → List ℤ
+row_in k cells a = take k (drop (a * k) cells)
+
+-- to each account is due what its row adds up to
 abbrev pub charged_by : ℕ → List ℤ → List AccountRow → List AccountRow
-charged_by k cells rows = changed_each (λ a row. charged (int_wrap w64 (total (λ z. z) (take k (drop (a * k) cells)))) row) 0 rows
+charged_by k cells rows = changed_each (λ a row. charged (int_wrap w64 (total (λ z. z) (row_in k cells a))) row) 0 rows
 
 -- the month of an index is there, and its expiry is not after the day
 abbrev pub has_expired : ℕ → List MonthRow → ℕ → Bool

@@ -1,14 +1,15 @@
 // The gap from the latest closed session to the open one: the latest prices of the months corrected
 // over it, by any calendar and any source of rates.
-ghost use Rattle.std.specs.Prelude.{◌≡◌, ◌≤◌, [], ◌∷◌, map, IfOk};
+ghost use Rattle.std.specs.Prelude.{◌≡◌, ◌≤◌, [], ◌∷◌, map, IfOk, MatchResult};
 ghost use Rattle.correction.specs.Gaps.{first_unrated};
 ghost use Rattle.interest.specs.Correction.{corrected_day};
 ghost use Rattle.rates.specs.Meanings.{rates_of};
 ghost use Rattle.refusal.specs.Refusals.{reason_of};
+ghost use Rattle.refusal.specs.declared.Refusal.TheVariants.{MissingRate};
 ghost use Rattle.rows.specs.Rows.{first_row, reason_by};
 ghost use Rattle.model.specs.Rows.{naming};
 ghost use Rattle.book.specs.Causes.{day_in};
-ghost use Rattle.book.specs.Closes.{gap_in, saturated, prices_over, prices_after};
+ghost use Rattle.book.specs.Closes.{gap_in, saturated, prices_over, prices_after, Corrects, Unrated};
 
 use crate::ledger::Ledger;
 use amounts::{MAX_MONTHS, MonthPrices};
@@ -37,6 +38,25 @@ fn correct_all(prices: &mut ArrayVec<MonthPrices, MAX_MONTHS>, factor: u32)
     }
 }
 
+// Corrects them over a day: a reserve day by its own rate, if it has one, any other day not at all.
+fn correct_over<C: Calendar, S: RateSource>(
+    calendar: &C,
+    source: &S,
+    day: u32,
+    prices: &mut ArrayVec<MonthPrices, MAX_MONTHS>,
+) -> Result<(), Refusal>
+    ensures { MatchResult result (λ _. Corrects (C.kinds calendar.now) (rates_of (S.meaning source.now)) day prices.old.items prices.new.items) (λ e. (e ≡ MissingRate day) × Unrated (C.kinds calendar.now) (rates_of (S.meaning source.now)) day) }
+{
+    if !calendar.kind(day).is_reserve() {
+        return Ok(());
+    }
+    match source.rate(day) {
+        None => return Err(Refusal::MissingRate(day)),
+        Some(rate) => correct_all(prices, day_factor(rate).unwrap()),
+    }
+    Ok(())
+}
+
 /// The prices of the months at the close of the session, the latest corrected over the reserve days
 /// of the gap in one walk, or the first of these days without a rate.
 pub(crate) fn closing_prices<C: Calendar, S: RateSource>(
@@ -47,18 +67,10 @@ pub(crate) fn closing_prices<C: Calendar, S: RateSource>(
     ensures answers { reason_by reason_of result ≡ first_row (naming 15 (first_unrated (rates_of (S.meaning source.now)) (gap_in (C.kinds calendar.now) ledger.now)) ∷ []) }
     ensures value { IfOk result (λ prices. prices.items ≡ map (prices_over (rates_of (S.meaning source.now)) (day_in ledger.now) (gap_in (C.kinds calendar.now) ledger.now)) ledger.now.months) }
 {
-    let session = ledger.session_day();
     let mut prices = ledger.month_prices();
-    // Before the first close there is no gap.
-    let from = ledger.latest_closed().unwrap_or(session);
-    for day in from..session {
-        if !calendar.kind(day).is_reserve() {
-            continue;
-        }
-        match source.rate(day) {
-            None => return Err(Refusal::MissingRate(day)),
-            Some(rate) => correct_all(&mut prices, day_factor(rate).unwrap()),
-        }
+    let gap = ledger.gap();
+    for day in gap.start..gap.end {
+        correct_over(calendar, source, day, &mut prices)?;
     }
     Ok(prices)
 }

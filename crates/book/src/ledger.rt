@@ -1,7 +1,6 @@
 // The tables of a book: plain, of fixed room, and of no calendar and no source.
 
 pub(crate) mod accounts;
-
 pub(crate) mod closes;
 pub(crate) mod months;
 pub(crate) mod trades;

@@ -1,5 +1,6 @@
 // What a book hands out: the ticket of an open session, the slip of a closed one that is not paid.
 ghost use Rattle.std.specs.Prelude.{◌≡◌};
+ghost use Rattle.model.specs.Answers.{numbers_of};
 
 use refusal::Refusal;
 use std::marker::Model;
@@ -80,7 +81,7 @@ impl Slip {
     /// Ends the slip without a payment, and answers the book's number and the session's day: its
     /// amounts remain due.
     pub fn write_off(self) -> (u32, u32)
-        ensures { (result.0 ≡ self.number) × (result.1 ≡ self.day) }
+        ensures { result ≡ numbers_of self }
     {
         let Slip { number, day } = self;
         (number, day)

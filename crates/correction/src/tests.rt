@@ -65,7 +65,10 @@ fn without_a_rate(rt: HostRuntime) -> Result<(), Fail> {
         rate: 10_000_000,
     };
     assert_eq!(rt; first_unrated(&calendar, &source, 9_860, 9_865), None);
-    assert_eq!(rt; first_unrated(&calendar, &source, 9_860, 9_870), Some(9_865));
+    assert_eq!(rt;
+        first_unrated(&calendar, &source, 9_860, 9_870),
+        Some(9_865)
+    );
     assert_eq!(rt; first_unrated(&calendar, &source, 0, u32::MAX), Some(2));
     assert_eq!(rt; first_unrated(&calendar, &source, 9_870, 9_860), None);
     Ok(())

@@ -1,5 +1,6 @@
 // The desk.
-ghost use Rattle.std.specs.Prelude.{◌≡◌, [], IfOk, OnErr, Some};
+ghost use Rattle.std.specs.Prelude.{◌≡◌, [], length, IfOk, OnErr, Some};
+ghost use Rattle.model.specs.Closes.{cells_of};
 ghost use Rattle.model.specs.History.{History};
 ghost use Rattle.model.specs.World.{World};
 ghost use Rattle.book.specs.Keeps.{world_of};
@@ -154,35 +155,37 @@ impl<C: Calendar, S: Topmost<C>> Desk<C, S> {
         }
     }
 
+    // Closes into arrays with a place for each amount.
+    fn close_into(&mut self, mut adjustments: Vec<i64>, mut day_trades: Vec<i64>) -> Reply
+        ensures { (w : World) (h : History) → ⟦<Book<C, S> as Kept>⟧.keeps w h self.old.book → length adjustments.items ≡ cells_of h → length day_trades.items ≡ cells_of h → Acted (takes S.publishes S.arbitrates) ⟦<Book<C, S> as Kept>⟧.keeps w h Call.Close result self.old self.new }
+    {
+        let Some(held) = self.ticket.take() else {
+            return Reply::NoTicket;
+        };
+        match self.book.close(held, &mut adjustments, &mut day_trades) {
+            Ok(slip) => {
+                self.hold(slip);
+                Reply::Closed(Closing {
+                    adjustments,
+                    day_trades,
+                })
+            }
+            Err(CloseRefused { refusal, ticket }) => {
+                self.ticket = Some(ticket);
+                Reply::Refused(refusal)
+            }
+        }
+    }
+
     // Where memory is short nothing is done.
     fn close(&mut self, heap: Global) -> Result<Reply, AllocError>
         ensures acted { IfOk result (λ reply. (w : World) (h : History) → ⟦<Book<C, S> as Kept>⟧.keeps w h self.old.book → Acted (takes S.publishes S.arbitrates) ⟦<Book<C, S> as Kept>⟧.keeps w h Call.Close reply self.old self.new) }
         ensures short { OnErr result (self.new ≡ self.old) }
     {
         let cells = self.book.cells();
-        let mut adjustments = vec![in heap; 0i64; cells]?;
-        let mut day_trades = vec![in heap; 0i64; cells]?;
-        Ok(match self.ticket.take() {
-            None => Reply::NoTicket,
-            Some(held) => {
-                match self
-                    .book
-                    .close(held, &mut adjustments, &mut day_trades)
-                {
-                    Ok(slip) => {
-                        self.hold(slip);
-                        Reply::Closed(Closing {
-                            adjustments,
-                            day_trades,
-                        })
-                    }
-                    Err(CloseRefused { refusal, ticket }) => {
-                        self.ticket = Some(ticket);
-                        Reply::Refused(refusal)
-                    }
-                }
-            }
-        })
+        let adjustments = vec![in heap; 0i64; cells]?;
+        let day_trades = vec![in heap; 0i64; cells]?;
+        Ok(self.close_into(adjustments, day_trades))
     }
 
     fn pay(&mut self) -> Reply

@@ -86,7 +86,10 @@ impl Complaint<'_> {
 }
 
 // What the words of a command gave.
-pub(crate) fn in_words<T: Drop>(heap: Global, answer: Result<T, Complaint<'_>>) -> Result<T, Failure> {
+pub(crate) fn in_words<T: Drop>(
+    heap: Global,
+    answer: Result<T, Complaint<'_>>,
+) -> Result<T, Failure> {
     answer.try_map_err(|complaint| Ok(Failure::InWords(complaint.words(heap)?)))
 }
 

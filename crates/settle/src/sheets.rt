@@ -5,7 +5,8 @@ use crate::files::{read_bytes, read_text, write_whole};
 use crate::journal::trade_line;
 use crate::texts::{Line, lines_of};
 use crate::words::{day, sheet_day};
-use sheet::{MAX_TRADES, SheetFault, SheetView, TradeLine, read, write};
+use amounts::MAX_TRADES;
+use sheet::{SheetFault, SheetView, TradeLine, read, write};
 use std::alloc::Global;
 use std::fmt;
 
@@ -121,7 +122,7 @@ fn later_line<'a>(before: usize, words: &[&'a str]) -> Result<TradeLine, Complai
         }
         [] => return Err(Complaint::Words("no word")),
     };
-    if before >= MAX_TRADES as usize {
+    if before >= MAX_TRADES {
         return Err(Complaint::Words("over 256 trades"));
     }
     Ok(trade)
@@ -139,7 +140,11 @@ fn trades(source: &Source<'_>, lines: &[Line]) -> Result<Vec<TradeLine>, Failure
 }
 
 // The bytes of the sheet of these trades.
-fn sheet_bytes(heap: Global, day: u16, trades: &[TradeLine]) -> Result<Vec<u8>, Complaint<'static>> {
+fn sheet_bytes(
+    heap: Global,
+    day: u16,
+    trades: &[TradeLine],
+) -> Result<Vec<u8>, Complaint<'static>> {
     let mut bytes = vec![in heap; 0u8; 4 + 16 * trades.len()]?;
     write(day, trades, bytes.as_mut_slice()).map_err(|_| Complaint::Words("no sheet"))?;
     Ok(bytes)

@@ -10,7 +10,7 @@ use Rattle.std.proofs.lemmas.List.{drop_all, drop_more}
 use Rattle.std.proofs.lemmas.Option.{slice_get_cases, slice_get_within, get_or_from_slice_get, none-some}
 use Rattle.rows.specs.Rows.{first_row}
 use Rattle.rows.proofs.RowLaws.{none-first}
-use Rattle.sheet.specs.declared.trade_line.TheConstants.{MAX_TRADES}
+use Rattle.amounts.specs.declared.trades.TheConstants.{MAX_TRADES}
 use Rattle.sheet.specs.declared.trade_line.TradeLine.{TradeLine}
 use Rattle.sheet.specs.declared.fault.SheetFault.{SheetFault}
 use Rattle.sheet.specs.declared.fault.SheetFault.TheVariants.{Day, Code}

@@ -12,7 +12,7 @@ use Rattle.std.proofs.lemmas.List.{length-append, length-drop, append-nil, take_
 use Rattle.std.proofs.lemmas.Option.{slice_get-get_or, slice_get_past}
 use Rattle.sheet.specs.declared.trade_line.TradeLine.{TradeLine}
 use Rattle.dates.specs.declared.TheConstants.{LAST_MONTH}
-use Rattle.sheet.specs.declared.trade_line.TheConstants.{MAX_TRADES}
+use Rattle.amounts.specs.declared.trades.TheConstants.{MAX_TRADES}
 use Rattle.sheet.specs.Codes.{code_bytes, month_of, is_code}
 use Rattle.sheet.specs.Sheet.{little, number, sides, terms, sheet_bytes, are_listable, write_fault, FitsLine, Valid, count_of, day_of, sides_at, terms_at, code_of, trade_from, lines_of, trades_of}
 use Rattle.sheet.proofs.CodeLaws.{month-back, decides-code, code-back}

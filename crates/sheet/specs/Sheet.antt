@@ -4,7 +4,7 @@ use Rattle.std.specs.Simd.Lanes.{number_l, digits_l, chunk}
 use Rattle.std.specs.List.{range_with_len, flat_map, list_all, AllByRecursion}
 use Rattle.dates.specs.declared.TheConstants.{LAST_MONTH}
 use Rattle.rows.specs.Rows.{first_row}
-use Rattle.sheet.specs.declared.trade_line.TheConstants.{MAX_TRADES}
+use Rattle.amounts.specs.declared.trades.TheConstants.{MAX_TRADES}
 use Rattle.sheet.specs.declared.trade_line.TradeLine.{TradeLine}
 use Rattle.sheet.specs.declared.fault.SheetFault.{SheetFault}
 use Rattle.sheet.specs.declared.fault.SheetFault.TheVariants.{Length, Count, Day, Code}

@@ -13,6 +13,6 @@ mod writing;
 pub use code::ContractCode;
 pub use fault::{SheetFault, WriteFault};
 pub use letters::{letter, month_of_letter};
-pub use trade_line::{MAX_TRADES, TradeLine};
+pub use trade_line::TradeLine;
 pub use view::{SheetView, Trades, read, read_for};
 pub use writing::write;

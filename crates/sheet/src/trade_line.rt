@@ -1,8 +1,5 @@
 // The lines of a trade sheet.
 
-/// The most trades of a sheet.
-pub const MAX_TRADES: u16 = 256;
-
 /// A trade as a sheet has it: the sides in rate, the month counted from January 2000, the rate in
 /// thousandths of a percent, and the quantity in contracts. Any number that fits is read and
 /// written; whether it is a trade of a book is the book's to say.

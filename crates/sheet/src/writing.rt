@@ -7,7 +7,8 @@ ghost use Rattle.sheet.specs.Sheet.{little, sides, terms, sheet_bytes, are_lista
 
 use crate::code::ContractCode;
 use crate::fault::WriteFault;
-use crate::trade_line::{MAX_TRADES, TradeLine};
+use crate::trade_line::TradeLine;
+use amounts::MAX_TRADES;
 use dates::LAST_MONTH;
 
 /// Writes the sheet of these trades, and answers its length. The rest of the array stays.
@@ -49,7 +50,7 @@ impl<'a> ListedTrades<'a> {
         ensures value { MatchOption result (are_listable trades.now ≡ false) (λ t. t.trades.now ≡ trades.now) }
         ensures fits { IfSome result (λ _. AllByRecursion FitsLine trades.now) }
     {
-        if trades.len() > MAX_TRADES as usize || !are_coded(trades) {
+        if trades.len() > MAX_TRADES || !are_coded(trades) {
             return None;
         }
         Some(ListedTrades { trades })

@@ -1,8 +1,9 @@
 // The close of a session in the tables.
-ghost use Rattle.std.specs.Prelude.{◌≡◌, ◌*◌, ◌≤◌, [], ◌∷◌, cond, OnOk, length, map, pos};
+ghost use Rattle.std.specs.Prelude.{◌≡◌, ◌+◌, ◌*◌, ◌≤◌, [], ◌∷◌, cond, OnOk, length, map, pos};
 ghost use Rattle.std.specs.Int.{int_wrap, w64};
 ghost use Rattle.std.specs.List.{position};
-ghost use Rattle.amounts.specs.Closes.{adjustment_in, FitsWithinLimit};
+ghost use Rattle.std.specs.Option.{unwrap_or};
+ghost use Rattle.amounts.specs.Closes.{adjustment_in};
 ghost use Rattle.amounts.specs.DayTrades.{day_trade};
 ghost use Rattle.amounts.specs.Rows.{HasRoom, written_to};
 ghost use Rattle.amounts.specs.Sums.{total};
@@ -10,7 +11,7 @@ ghost use Rattle.refusal.specs.Refusals.{reason_of};
 ghost use Rattle.rows.specs.Rows.{first_row, reason_by};
 ghost use Rattle.book.specs.Causes.{day_in};
 ghost use Rattle.book.specs.Changes.{priced, after_close};
-ghost use Rattle.book.specs.Closes.{lacks_mark, session_rows_in, room_row_in, prices_before, charged, charged_by, has_expired, expired_by};
+ghost use Rattle.book.specs.Closes.{lacks_mark, session_rows_in, room_row_in, prices_before, row_in, charged, charged_by, has_expired, expired_by};
 
 use super::accounts::together;
 use super::months::MAX_PRICE;
@@ -19,6 +20,7 @@ use crate::references::{Slip, Ticket};
 use amounts::{CELLS, MAX_ACCOUNTS, MAX_MONTHS, MonthPrices};
 use arrayvec::ArrayVec;
 use refusal::Refusal;
+use std::ops::Range;
 
 // The settlement price of a month in the session of a day.
 fn settlement_price(row: MonthRow, day: u32) -> u32
@@ -81,14 +83,23 @@ fn charged(row: AccountRow, amount: i64) -> AccountRow
     }
 }
 
-// Adds to what is due to each account the amounts of its row, of so many months.
+// The row of an account in cells with so many months to an account.
+fn row(cells: &[i64], account: usize, months: usize) -> &[i64]
+    requires { account * months + months ≤ length cells.now }
+    ensures { result.now ≡ row_in months cells.now account }
+{
+    let start = account * months;
+    &cells[start..start + months]
+}
+
+// Adds to what is due to each account the amounts of its row.
 fn charge_rows(rows: &mut ArrayVec<AccountRow, MAX_ACCOUNTS>, cells: &[i64], months: usize)
     requires { length rows.old.items * months ≤ length cells.now }
     ensures { rows.new.items ≡ charged_by months cells.now rows.old.items }
 {
-    for (account, row) in rows.iter_mut().enumerate() {
-        let start = account * months;
-        *row = charged(*row, row_total(&cells[start..start + months]));
+    for (account, entry) in rows.iter_mut().enumerate() {
+        let amount = row_total(row(cells, account, months));
+        *entry = charged(*entry, amount);
     }
 }
 
@@ -116,11 +127,13 @@ fn expire_cells(cells: &mut [i32; CELLS], rows: &[MonthRow], day: u32)
 }
 
 impl Ledger {
-    /// The day of the latest closed session.
-    pub(crate) fn latest_closed(&self) -> Option<u32>
-        ensures { result ≡ self.now.session.closed }
+    /// The days of the gap, from the latest closed session on, to the session; none before the first
+    /// close.
+    pub(crate) fn gap(&self) -> Range<u32>
+        ensures { (result.start ≡ unwrap_or self.now.session.closed (day_in self.now)) × (result.end ≡ day_in self.now) }
     {
-        self.closed
+        let session = self.session_day();
+        self.closed.unwrap_or(session)..session
     }
 
     /// The prices of the months in the session, before the latest are corrected.
@@ -163,6 +176,20 @@ impl Ledger {
         Ok(())
     }
 
+    // Writes the amounts of the session at these prices of the months.
+    fn write(&mut self, prices: &[MonthPrices], adjustments: &mut [i64], day_trades: &mut [i64])
+        requires priced { length prices.now ≡ length self.old.months }
+        requires adjustments_long { HasRoom (length self.old.accounts) (length self.old.months) (length adjustments.old) }
+        requires day_trades_long { HasRoom (length self.old.accounts) (length self.old.months) (length day_trades.old) }
+        ensures adjusted { adjustments.new ≡ written_to (length self.old.accounts) (length self.old.months) (adjustment_in self.old.session.trades prices.now self.old.positions) adjustments.old }
+        ensures day_traded { day_trades.new ≡ written_to (length self.old.accounts) (length self.old.months) (λ a m. day_trade a m self.old.session.trades) day_trades.old }
+        ensures same_tables { self.new ≡ self.old }
+    {
+        let accounts = self.accounts.len();
+        self.trades
+            .write_amounts(accounts, prices, &self.positions, adjustments, day_trades);
+    }
+
     /// Closes the session at these prices of the months, and answers its slip.
     pub(crate) fn close(
         &mut self,
@@ -174,19 +201,12 @@ impl Ledger {
         requires adjustments_long { HasRoom (length self.old.accounts) (length self.old.months) (length adjustments.old) }
         requires day_trades_long { HasRoom (length self.old.accounts) (length self.old.months) (length day_trades.old) }
         ensures slip { result ≡ record { number = self.old.number; day = day_in self.old } }
-        ensures adjusted { adjustments.new ≡ written_to (length self.old.accounts) (length self.old.months) (λ a m. int_wrap w64 (adjustment_in self.old.session.trades prices.now self.old.positions a m)) adjustments.old }
-        ensures exact { FitsWithinLimit self.old.session.trades prices.now self.old.positions }
+        ensures adjusted { adjustments.new ≡ written_to (length self.old.accounts) (length self.old.months) (adjustment_in self.old.session.trades prices.now self.old.positions) adjustments.old }
         ensures day_traded { day_trades.new ≡ written_to (length self.old.accounts) (length self.old.months) (λ a m. day_trade a m self.old.session.trades) day_trades.old }
         ensures tables { self.new ≡ after_close (day_in self.old) (charged_by (length self.old.months) adjustments.new self.old.accounts) (expired_by (day_in self.old) self.old.months self.old.positions) self.old }
     {
         let day = self.session_day();
-        self.trades.write_amounts(
-            self.accounts.len(),
-            prices,
-            &self.positions,
-            adjustments,
-            day_trades,
-        );
+        self.write(prices, adjustments, day_trades);
         charge_rows(&mut self.accounts, adjustments, self.months.len());
         expire_cells(&mut self.positions, &self.months, day);
         price_rows(&mut self.months, day);

@@ -5,12 +5,12 @@ ghost use Rattle.rows.specs.Rows.{first_row};
 ghost use Rattle.sheet.specs.Codes.{is_code};
 ghost use Rattle.sheet.specs.Sheet.{count_of, day_of, code_of, sides_at, terms_at, code_rows, read_fault};
 ghost use Rattle.sheet.specs.declared.fault.SheetFault.TheVariants.{Code};
-ghost use Rattle.sheet.specs.declared.trade_line.TheConstants.{MAX_TRADES};
+ghost use Rattle.amounts.specs.declared.trades.TheConstants.{MAX_TRADES};
 
 use super::array_of;
 use crate::code::ContractCode;
 use crate::fault::SheetFault;
-use crate::trade_line::MAX_TRADES;
+use amounts::MAX_TRADES;
 
 // Bytes whose length is that of a sheet, with the count and the day of their head.
 // Kept: the count stands beside the whole bytes, tied to them below; two slices would need it too, since the definitions speak of the whole.
@@ -35,7 +35,7 @@ impl<'a> Frame<'a> {
         }
         let count = u16::from_le_bytes(array_of(&bytes[0..2]));
         let day = u16::from_le_bytes(array_of(&bytes[2..4]));
-        if count > MAX_TRADES {
+        if count as usize > MAX_TRADES {
             return Err(SheetFault::Count);
         }
         if bytes.len() != 4 + 16 * count as usize {

@@ -9,7 +9,8 @@ ghost use Rattle.sheet.specs.Lines.{trades_left};
 
 use super::{SheetView, Trades, array_of};
 use crate::code::ContractCode;
-use crate::trade_line::{MAX_TRADES, TradeLine};
+use crate::trade_line::TradeLine;
+use amounts::MAX_TRADES;
 
 impl<'a> SheetView<'a> {
     /// The session day.

@@ -17,7 +17,7 @@ pub returns-in-Err-clause-closes : goal.returns-in-Err-clause-closes
 returns-in-Err-clause-closes g c =
     refused-call _ _ _ _ _ _ c.args.self.now _
     (λ w h k. close-first w h c.args.ticket c.args.self.now.ledger (length c.args.adjustments.now) (length c.args.day_trades.now) _ _ k.calendar k.source k.tables)
-    (record { refusal = c.in-Err.refusal; ticket = c.args.ticket }) _ refl c.in-Err.ensures.answers
+    _ _ refl c.in-Err.ensures.answers
 
 pub returns-in-Ok-clause-closes : goal.returns-in-Ok-clause-closes
 returns-in-Ok-clause-closes g c =
@@ -34,7 +34,7 @@ returns-in-Ok-clause-closes g c =
     let calendar = sym k.calendar in
     let source = sym k.source in
     let prices = c.deref.ensures.0 ∙ c.in-Ok.ensures.value ∙ (λ i. map (prices_over (rates_of (source i)) (day_in t) (gap_in (calendar i) t)) t.months) in
-    let adjusted = c.close.ensures.adjusted ∙ adjusted-told w h t bounded k.lawful k.tables _ session.day c.args.adjustments.now prices c.close.ensures.exact session.session.is_open in
+    let adjusted = c.close.ensures.adjusted ∙ adjusted-told w h t bounded k.lawful k.tables _ session.day c.args.adjustments.now prices session.session.is_open in
     record {
       value = (
         (let number = k.tables.number in let day = day-told w h t k.tables in λ i. record { number = number i; day = sym day i }),

@@ -9,7 +9,7 @@ use Rattle.book.proofs.position_book.Book.pay.Goals as goal
 pub returns-in-Err-clause-pays : goal.returns-in-Err-clause-pays
 returns-in-Err-clause-pays g c =
     refused-call _ _ _ _ _ _ c.args.self.now _ (λ w h k. pay-first w h c.args.slip c.args.self.now.ledger k.tables)
-    (record { refusal = c.in-Err.refusal; slip = c.args.slip }) _ refl c.in-Err.ensures
+    _ _ refl c.in-Err.ensures
 
 pub returns-clause-pays : goal.returns-clause-pays
 returns-clause-pays g c =

@@ -1,10 +1,10 @@
 #!/usr/bin/env python3
 """Lists places of src/ that an older style of Rattle may have left.
 
-    tools/places.py [COMMIT]        counts, of a commit or of the files as they stand
-    tools/places.py -l [COMMIT]     and each place
+    tools/history/places.py [COMMIT]        counts, of a commit or of the files as they stand
+    tools/history/places.py -l [COMMIT]     and each place
 
-A line that a pattern meets is a candidate; docs/DESIGN-PASS.md says which are places.
+A line that a pattern meets is a candidate; docs/history/DESIGN-PASS.md says which are places.
 """
 import collections
 import difflib

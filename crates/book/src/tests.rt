@@ -1,0 +1,2 @@
+// Tests of the book's calls.
+mod closing;
