@@ -3,6 +3,7 @@
 
 mod book;
 mod calendar;
+mod command_line;
 mod correct;
 mod dates;
 mod figures;
@@ -19,20 +20,22 @@ mod run;
 mod sheet;
 mod statement;
 mod tables;
+mod words;
 
 use std::env;
 use std::ffi::OsString;
 use std::io::Write;
 use std::process::ExitCode;
 
-use figures::{factor_text, price_text, read_dealt_rate, read_di_rate, read_number};
+use command_line::{given, Options};
+use figures::{factor_text, price_text};
 use interest::{day_factor, trade_price, MAX_DEALT_RATE, MAX_DI_RATE, MAX_RESERVE_DAYS};
 use run::Output;
 
 /// The command `price`.
 fn price(rate: &str, days: &str) -> Result<String, String> {
-    let dealt_rate = read_dealt_rate(rate).ok_or(format!("no rate: {rate}"))?;
-    let reserve_days = read_number(days).ok_or(format!("no number: {days}"))?;
+    let dealt_rate = words::dealt_rate(rate)?;
+    let reserve_days = words::number(days)?;
     if dealt_rate > MAX_DEALT_RATE {
         return Err("rate over 99.999 %".to_string());
     }
@@ -44,7 +47,7 @@ fn price(rate: &str, days: &str) -> Result<String, String> {
 
 /// The command `factor`.
 fn factor(rate: &str) -> Result<String, String> {
-    let di_rate = read_di_rate(rate).ok_or(format!("no rate: {rate}"))?;
+    let di_rate = words::di_rate(rate)?;
     if di_rate > MAX_DI_RATE {
         return Err("rate over 99.999999 %".to_string());
     }
@@ -56,10 +59,13 @@ const COMMANDS: [[&str; 2]; 8] = [
         "settle run [--strict] [--json] [--csv DIR] JOURNAL",
         "replays a book from its journal, and says what each call answered",
     ],
-    ["settle prices OFFICE SHEET", "prices every line of a sheet on the office's calendar"],
+    [
+        "settle prices [--json] [--csv DIR] OFFICE SHEET",
+        "prices every line of a sheet on the office's calendar",
+    ],
     [
         "settle correct OFFICE FROM TO PRICE",
-        "carries a settlement price over the reserve days of a gap",
+        "corrects a settlement price over the reserve days of a gap",
     ],
     ["settle sheet show FILE", "prints a sheet as text"],
     ["settle sheet make TEXTFILE FILE", "writes the sheet that a text describes"],
@@ -73,39 +79,64 @@ fn help() -> String {
     COMMANDS.iter().map(|[words, what]| format!("{words:<width$}  {what}\n")).collect()
 }
 
-/// What the command prints, or the message after `settle: `.
-fn command(arguments: &[OsString]) -> Result<Output, String> {
+/// Why there is no print: the command line is bad, or a message after `settle: `.
+enum Refused {
+    CommandLine,
+    Message(String),
+}
+
+impl From<String> for Refused {
+    fn from(message: String) -> Refused {
+        Refused::Message(message)
+    }
+}
+
+/// What the command prints.
+fn command(arguments: &[OsString]) -> Result<Output, Refused> {
     let texts: Option<Vec<&str>> = arguments.iter().map(|argument| argument.to_str()).collect();
-    let words = texts.ok_or("a word of the command is not UTF-8".to_string())?;
-    let unknown = || Err("unknown command; try: settle help".to_string());
-    let print = match words[..] {
-        ["run", ref rest @ ..] => return run::run(rest).unwrap_or_else(unknown),
-        ["prices", office, sheet] => prices::prices(office, sheet),
-        ["correct", office, from, to, price] => correct::correct(office, from, to, price),
-        ["sheet", "show", file] => sheet::show(file),
-        ["sheet", "make", text_file, file] => sheet::make(text_file, file),
-        ["price", rate, days] => price(rate, days),
-        ["factor", rate] => factor(rate),
-        ["help"] => Ok(help()),
-        _ => return unknown(),
+    let words = texts.ok_or(Refused::CommandLine)?;
+    let (name, rest) = match words[..] {
+        ["--help" | "-h" | "--version" | "-V", ..] => ("help", &[][..]),
+        ["sheet", name @ ("show" | "make"), ref rest @ ..] => (name, rest),
+        [name, ref rest @ ..] => (name, rest),
+        [] => return Err(Refused::CommandLine),
     };
-    print.map(|print| Output { print, refused: None })
+    if let ["--help" | "-h", ..] = rest {
+        return Ok(Output { print: help(), refused: None });
+    }
+    let options = Options { strict: name == "run", tables: name == "run" || name == "prices" };
+    let given = given(rest, options).ok_or(Refused::CommandLine)?;
+    let in_sheet = words[0] == "sheet";
+    let print = match (name, in_sheet, &given.words[..]) {
+        ("run", false, [journal]) => return Ok(run::run(journal, &given)?),
+        ("prices", false, [office, sheet]) => prices::prices(office, sheet, &given),
+        ("correct", false, [office, from, to, price]) => correct::correct(office, from, to, price),
+        ("show", true, [file]) => sheet::show(file),
+        ("make", true, [text_file, file]) => sheet::make(text_file, file),
+        ("price", false, [rate, days]) => price(rate, days),
+        ("factor", false, [rate]) => factor(rate),
+        ("help", false, []) => Ok(help()),
+        _ => return Err(Refused::CommandLine),
+    };
+    Ok(Output { print: print?, refused: None })
+}
+
+/// Prints, and tells the refusal that ended a run.
+fn print(output: Output) -> Result<(), Refused> {
+    let mut out = std::io::stdout();
+    out.write_all(output.print.as_bytes())
+        .and_then(|_| out.flush())
+        .map_err(|_| "cannot write standard output".to_string())?;
+    output.refused.map_or(Ok(()), |refused| Err(refused.into()))
 }
 
 fn main() -> ExitCode {
     let arguments: Vec<OsString> = env::args_os().skip(1).collect();
-    let printed = command(&arguments).and_then(|output| {
-        let mut out = std::io::stdout();
-        out.write_all(output.print.as_bytes())
-            .and_then(|_| out.flush())
-            .map_err(|_| "cannot write standard output".to_string())?;
-        output.refused.map_or(Ok(()), Err)
-    });
-    match printed {
-        Ok(()) => ExitCode::SUCCESS,
-        Err(message) => {
-            let _ = writeln!(std::io::stderr(), "settle: {message}");
-            ExitCode::FAILURE
-        }
-    }
+    let (message, status) = match command(&arguments).and_then(print) {
+        Ok(()) => return ExitCode::SUCCESS,
+        Err(Refused::CommandLine) => ("bad command line; try: settle help".to_string(), 2),
+        Err(Refused::Message(message)) => (message, 1),
+    };
+    let _ = writeln!(std::io::stderr(), "settle: {message}");
+    ExitCode::from(status)
 }

@@ -13,15 +13,40 @@ export LC_ALL=C
 
 part() { printf '\n======== %s\n' "$1"; }
 
+# What the program said on standard error, and its status. What it says of a bad command line is its own.
+ended() { # status
+  local error
+  IFS= read -r -d '' error <../error
+  [ $1 -eq 2 ] && error=
+  printf '%s\n%sstatus %s\n' '-- standard error' "$error" $1
+}
+
 # One case: the words of the command.
 run() {
   printf '\n$ settle'
   [ $# -gt 0 ] && printf ' %q' "$@"
   printf '\n%s\n' '-- standard output'
   "$program" "$@" 2>../error
-  local status=$? error
-  IFS= read -r -d '' error <../error
-  printf '%s\n%sstatus %s\n' '-- standard error' "$error" $status
+  ended $?
+}
+
+# A command line that asks for help or the version: what it prints is the program's own.
+asks() {
+  printf '\n$ settle'
+  printf ' %q' "$@"
+  "$program" "$@" >../print 2>../error
+  printf '\nstatus %s, prints %s, says %s\n' $? "$([ -s ../print ] && echo something)" "$(cat ../error)"
+}
+
+# The same where standard output is full, and where nobody reads it any more.
+unwritten() {
+  printf '\n$ settle'
+  printf ' %q' "$@"
+  printf '\n'
+  "$program" "$@" >/dev/full 2>../error
+  ended $?
+  { sleep 0.2; "$program" "$@" 2>../error; ended $? >../end; } | true
+  cat ../end
 }
 
 # The same with an office file of the given text (as for printf).
@@ -83,6 +108,15 @@ priced() { # text file, office file
   run prices "$2" first.bin
 }
 
+# The tables that a command wrote into a folder.
+tables() {
+  local table
+  for table in "$1"/*; do
+    printf -- '-- %s\n' "$table"
+    cat "$table"
+  done
+}
+
 # Lines of a word, a date and a rate for so many days from day number $2 on;
 # the rate is $4, or another one each day where there is none.
 days() { # word, first day, count, rate
@@ -123,6 +157,16 @@ part 'the main example'
 whole sheet.txt example-office.txt
 bytes first.bin
 
+part 'the example as objects and tables'
+mkdir tables
+run prices --json example-office.txt first.bin
+run prices --csv tables example-office.txt first.bin
+tables tables
+run prices --csv=./tables/ --json example-office.txt first.bin
+run prices --csv no-folder example-office.txt first.bin
+run prices --csv no-folder example-office.txt missing.bin
+run prices --csv no-folder rule.txt not-there.bin
+
 part 'the example print'
 printf 'session 2026-12-30\ntrade 0 1 DI1F27 10.000 10\ntrade 2 3 DI1Z26 10.000 5\n' >two.txt
 whole two.txt example-office.txt
@@ -132,36 +176,70 @@ part 'a sheet without lines'
 printf 'session 2026-12-30\n' >none.txt
 whole none.txt example-office.txt
 bytes first.bin
+run prices --json --csv tables example-office.txt first.bin
+tables tables
 
 # ------------------------------------------------------------------
-part 'unknown commands'
+part 'bad command lines'
 run
 run nothing
 run Help
+run rnu
 run help more
 run prices
 run prices rule.txt
 run prices rule.txt sheet.bin more
+run prices --strict rule.txt sheet.bin
+run prices --csv rule.txt sheet.bin
+run prices --json --json rule.txt sheet.bin
 run correct
 run correct rule.txt
 run correct rule.txt 2026-12-30
 run correct rule.txt 2026-12-30 2027-01-04
 run correct rule.txt 2026-12-30 2027-01-04 99925.00 more
+run correct --json rule.txt 2026-12-30 2027-01-04 99925.00
 run correct missing.txt x y
 run Correct rule.txt 2026-12-30 2026-12-30 99925.00
 run sheet
 run sheet show
 run sheet show sheet.bin more
+run sheet show --json sheet.bin
 run sheet make sheet.txt
 run sheet make sheet.txt made.bin more
 run sheet print sheet.bin
+run show sheet.bin
 run price
 run price 10
 run price 10 252 1
+run price -x 252
+run price -1x 252
+run price - 252
 run factor
 run factor 10 1
-run --help
+run --json
+run -x
 run ''
+asks --help
+asks -h
+asks --version
+asks -V
+for name in run prices correct sheet price factor help; do
+  asks $name --help
+  asks $name -h
+done
+asks sheet show --help
+asks sheet make -h
+
+part 'words that begin with a hyphen'
+cp sheet.bin ./-sheet
+run sheet show -sheet
+run sheet show -- -sheet
+run sheet show ./-sheet
+run price -- -1 252
+run price -0.5 252
+run price -- 10 252
+run prices rule.txt sheet.bin --json
+run prices --json -- rule.txt -sheet
 
 part 'files that cannot be read or written'
 mkdir a-folder
@@ -183,6 +261,34 @@ run sheet make a-folder made.bin
 run sheet make not-utf8.txt made.bin
 run sheet make sheet.txt no-folder/made.bin
 run sheet make sheet.txt a-folder
+run sheet make sheet.txt /dev/null
+run sheet make sheet.txt /dev/full
+mkdir taken.bin.new
+run sheet make sheet.txt taken.bin
+ls | grep new
+rmdir taken.bin.new
+echo 'a file of 64 MiB, one more byte, and one that never ends'
+{ printf 'calendar rule\n#'; head -c 67108849 /dev/zero; } >64.txt
+run prices 64.txt sheet.bin
+printf x >>64.txt
+run prices 64.txt sheet.bin
+run sheet make 64.txt made.bin
+run sheet show 64.txt
+run prices rule.txt 64.txt
+run run 64.txt
+rm 64.txt
+run prices /dev/zero sheet.bin
+run prices rule.txt /dev/zero
+run sheet make /dev/zero made.bin
+run sheet show /dev/zero
+run run /dev/zero
+office 'calendar marked /dev/zero\n'
+echo 'standard output'
+unwritten help
+unwritten price 10 252
+unwritten prices rule.txt sheet.bin
+unwritten prices --json rule.txt sheet.bin
+unwritten sheet show sheet.bin
 
 # ------------------------------------------------------------------
 part 'price: the figures in the tables'
@@ -455,6 +561,8 @@ trade 0 1 DI1G27 4294967.295 8
 trade 0 1 DI1G27 10.001 9
 TEXT
 priced causes.txt winter.txt
+run prices --json --csv tables winter.txt first.bin
+tables tables
 cat >causes.txt <<'TEXT'
 session 2026-12-15
 trade 0 1 DI1Z99 100.001 10
@@ -896,15 +1004,6 @@ journal() {
   printf '\n# book.journal: %q' "$1"
   printf "$1" >book.journal
   run run "${@:2}" book.journal
-}
-
-# The tables that a run wrote into a folder.
-tables() {
-  local table
-  for table in "$1"/*; do
-    printf -- '-- %s\n' "$table"
-    cat "$table"
-  done
 }
 
 base='calendar rule\nexception 2027-01-01 closed\nrates table 2026-12-28 10\n'

@@ -1,9 +1,10 @@
 // The command `correct`: a settlement price corrected over the reserve days of a gap.
 
-use crate::dates::{date_of, read_date};
-use crate::figures::{count_text, di_rate_text, factor_text, price_text, read_price};
+use crate::dates::date_of;
+use crate::figures::{count_text, di_rate_text, factor_text, price_text};
 use crate::interest::{correct_day, day_factor, MAX_PRICE};
 use crate::office::read_office;
+use crate::words;
 
 const MAX_GAP_DAYS: usize = 252;
 
@@ -14,9 +15,9 @@ fn row(day: &str, rate: &str, source: &str, factor: &str, price: &str) -> String
 
 pub fn correct(office_file: &str, from: &str, to: &str, price: &str) -> Result<String, String> {
     let office = read_office(office_file)?;
-    let from_day = read_date(from).ok_or(format!("no date: {from}"))?;
-    let to_day = read_date(to).ok_or(format!("no date: {to}"))?;
-    let first_price = read_price(price).ok_or(format!("no price: {price}"))?;
+    let from_day = words::date(from)?;
+    let to_day = words::date(to)?;
+    let first_price = words::price(price)?;
     if first_price < 1 || first_price > MAX_PRICE {
         return Err("price not from 0.01 to 100 000.00".to_string());
     }

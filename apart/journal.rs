@@ -3,10 +3,9 @@
 use std::path::Path;
 
 use crate::book::Account;
-use crate::dates::{read_code, read_date};
-use crate::figures::{read_account, read_dealt_rate, read_di_rate, read_number, read_price};
 use crate::files::{at_line, lines_of_words, read_file_at, read_text_file};
 use crate::office::{Office, OfficeLines};
+use crate::words::{account, code, date, dealt_rate, di_rate, number, price, quantity, unknown};
 
 /// A call of the book; months are month numbers, and a sheet is its bytes.
 pub enum Call {
@@ -60,47 +59,10 @@ fn form_of(word: &str) -> Option<&'static str> {
     CALLS.into_iter().find(|form| form.split(' ').next() == Some(word))
 }
 
-fn number(word: &str) -> Result<u32, String> {
-    read_number(word).ok_or(format!("no number: {word}; expected digits, at most 4294967295"))
-}
-
-fn account(word: &str) -> Result<usize, String> {
-    let account = read_account(word).map(usize::from);
-    account.ok_or(format!("no account: {word}; expected a number up to 255"))
-}
-
-fn date(word: &str) -> Result<u32, String> {
-    let expected = "expected one like 2026-12-30, from 2000-01-01 to 2099-12-31";
-    read_date(word).ok_or(format!("no date: {word}; {expected}"))
-}
-
-fn code(word: &str) -> Result<u32, String> {
-    let month = read_code(word.as_bytes());
-    month.ok_or(format!("no contract code: {word}; expected one like DI1F27"))
-}
-
-fn di_rate(word: &str) -> Result<u32, String> {
-    let expected = "expected a percentage with at most 6 decimals";
-    read_di_rate(word).ok_or(format!("no rate: {word}; {expected}"))
-}
-
-fn dealt_rate(word: &str) -> Result<u32, String> {
-    let expected = "expected a percentage with at most 3 decimals";
-    read_dealt_rate(word).ok_or(format!("no rate: {word}; {expected}"))
-}
-
-fn price(word: &str) -> Result<u64, String> {
-    read_price(word).ok_or(format!("no price: {word}; expected points with at most 2 decimals"))
-}
-
-fn quantity(word: &str) -> Result<u32, String> {
-    read_number(word).ok_or(format!("no quantity: {word}; expected digits, at most 4294967295"))
-}
-
 /// The call of a line; sheets are in the folder.
 fn read_call(folder: &Path, words: &[&str]) -> Result<Call, String> {
     let Some(form) = form_of(words[0]) else {
-        return Err(format!("unknown word: {}; expected a call, as: open", words[0]));
+        return unknown(words[0], "a call, as: open");
     };
     let call = match words {
         ["enter", client, participant, member] => Call::Enter(Account {
@@ -118,8 +80,8 @@ fn read_call(folder: &Path, words: &[&str]) -> Result<Call, String> {
         ["arbitrate", day, rate] => Call::Arbitrate { day: date(day)?, rate: di_rate(rate)? },
         ["open"] => Call::Open,
         ["trade", buyer, seller, month, rate, contracts] => Call::Trade {
-            buyer: account(buyer)?,
-            seller: account(seller)?,
+            buyer: account(buyer)?.into(),
+            seller: account(seller)?.into(),
             month: code(month)?,
             rate: dealt_rate(rate)?,
             quantity: quantity(contracts)?,
@@ -129,8 +91,8 @@ fn read_call(folder: &Path, words: &[&str]) -> Result<Call, String> {
         ["close"] => Call::Close,
         ["pay"] => Call::Pay,
         ["write-off"] => Call::WriteOff,
-        ["position", of, month] => Call::Position { account: account(of)?, month: code(month)? },
-        ["balance", of] => Call::Balance { account: account(of)? },
+        ["position", of, month] => Call::Position { account: account(of)?.into(), month: code(month)? },
+        ["balance", of] => Call::Balance { account: account(of)?.into() },
         _ => return Err(format!("expected: {form}")),
     };
     Ok(call)
@@ -166,7 +128,7 @@ pub fn read_journal(file: &str) -> Result<Journal, String> {
             word if word != "arbitrate" && form_of(word).is_some() => {
                 Err("no book line before; expected: book NUMBER DATE".to_string())
             }
-            _ => office.add(words),
+            _ => office.add(words, "exception, rates, rate, arbitrate or book"),
         };
         taken.map_err(|message| at_line(file, line.number, &message))?;
     }

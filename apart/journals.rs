@@ -21,6 +21,7 @@ mod interest;
 mod rates;
 mod refusals;
 mod sheet;
+mod words;
 
 use std::env;
 use std::fs;

@@ -1,8 +1,9 @@
 // The trade sheet: read and written, shown as text and made from it.
 
-use crate::dates::{code_text, date_text, read_code, read_date};
-use crate::figures::{count_text, rate_text, read_account, read_dealt_rate, read_number};
+use crate::dates::{code_text, date_text, read_code};
+use crate::figures::{count_text, rate_text, read_number};
 use crate::files::{at_line, lines_of_words, read_file, read_text_file, write_file};
+use crate::words::{account, code, date, dealt_rate, quantity, unknown};
 
 pub const MAX_TRADES: usize = 256;
 
@@ -129,33 +130,37 @@ fn read_session(words: &[&str]) -> Result<u32, String> {
             _ => Err(expected),
         },
         [_, "day"] => Err(expected),
-        [_, date] => read_date(date).ok_or(format!("no date: {date}")),
+        [_, day] => date(day),
         _ => Err(expected),
     }
 }
 
+const TRADE: &str = "trade BUYER SELLER CODE RATE QUANTITY";
+
 fn read_trade(words: &[&str]) -> Result<TradeLine, String> {
-    let [_, buyer, seller, code, rate, quantity] = words else {
-        return Err("expected: trade BUYER SELLER CODE RATE QUANTITY".to_string());
+    let [_, buyer, seller, month, rate, contracts] = words else {
+        return Err(format!("expected: {TRADE}"));
     };
     Ok(TradeLine {
-        buyer: read_account(buyer).ok_or(format!("no account: {buyer}"))?,
-        seller: read_account(seller).ok_or(format!("no account: {seller}"))?,
-        month: read_code(code.as_bytes()).ok_or(format!("no contract code: {code}"))?,
-        rate: read_dealt_rate(rate).ok_or(format!("no rate: {rate}"))?,
-        quantity: read_number(quantity).ok_or(format!("no quantity: {quantity}"))?,
+        buyer: account(buyer)?,
+        seller: account(seller)?,
+        month: code(month)?,
+        rate: dealt_rate(rate)?,
+        quantity: quantity(contracts)?,
     })
 }
+
+const NO_SESSION: &str = "no session line; expected first: session DATE, or session day N";
 
 /// The sheet that the text in a file describes.
 fn read_sheet_text(file: &str) -> Result<Sheet, String> {
     let text = read_text_file(file)?;
     let lines = lines_of_words(&text);
     let Some(first) = lines.first() else {
-        return Err(at_line(file, 1, "no session line"));
+        return Err(at_line(file, 1, NO_SESSION));
     };
     if first.words[0] != "session" {
-        return Err(at_line(file, first.number, "no session line"));
+        return Err(at_line(file, first.number, NO_SESSION));
     }
     let session_day = read_session(&first.words)
         .map_err(|message| at_line(file, first.number, &message))?;
@@ -165,7 +170,7 @@ fn read_sheet_text(file: &str) -> Result<Sheet, String> {
         let trade = match line.words[0] {
             "session" => Err("a second session".to_string()),
             "trade" => read_trade(&line.words),
-            other => Err(format!("unknown word: {other}")),
+            other => unknown(other, TRADE),
         };
         trades.push(trade.map_err(|message| at_line(file, line.number, &message))?);
         if trades.len() > MAX_TRADES {

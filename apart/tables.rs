@@ -1,7 +1,5 @@
 // The four tables that a run writes as CSV.
 
-use std::fs;
-
 use crate::dates::{code_text, date_of};
 use crate::files::write_file;
 use crate::replay::Replay;
@@ -69,20 +67,10 @@ fn positions(replay: &Replay) -> String {
     table
 }
 
-/// Writes a table whole under its name, or not at all.
-fn write_table(folder: &str, name: &str, table: &str) -> Result<(), String> {
-    let file = if folder.ends_with('/') {
-        format!("{folder}{name}")
-    } else {
-        format!("{folder}/{name}")
-    };
-    let new = format!("{file}.new");
-    let written = write_file(&new, table.as_bytes()).is_ok() && fs::rename(&new, &file).is_ok();
-    if !written {
-        let _ = fs::remove_file(&new);
-        return Err(format!("cannot write {file}"));
-    }
-    Ok(())
+/// Writes a table into a folder.
+pub fn write_table(folder: &str, name: &str, table: &str) -> Result<(), String> {
+    let between = if folder.ends_with('/') { "" } else { "/" };
+    write_file(&format!("{folder}{between}{name}"), table.as_bytes())
 }
 
 pub fn write_tables(replay: &Replay, folder: &str) -> Result<(), String> {

@@ -40,7 +40,3 @@ one-more a (suc n) =
 
 pub range-more : (a n : ℕ) → range_with_len a (n + 1) ≡ range_with_len a n ++ (a + n) ∷ []
 range-more a n = ap (range_with_len a) (add-one n) ∙ one-more a n
-
--- and a sum over it
-pub total-range : (f : ℕ → ℤ) (a n : ℕ) → total f (range_with_len a (n + 1)) ≡ total f (range_with_len a n) +ℤ f (a + n)
-total-range f a n = ap (total f) (range-more a n) ∙ total-append f (range_with_len a n) ((a + n) ∷ []) ∙ omega (arith, ints)

@@ -41,7 +41,7 @@ use Rattle.book.specs.declared.ledger.AccountRow.{AccountRow}
 use Rattle.book.specs.declared.ledger.MonthRow.{MonthRow}
 use Rattle.book.specs.Causes.{day_in}
 use Rattle.book.specs.Changes.{priced, after_close}
-use Rattle.book.specs.Closes.{gap_in, saturated, prices_over, charged, charged_by, has_expired, expired_by}
+use Rattle.book.specs.Closes.{gap_in, price_in_32_bits, prices_over, with_more_due, accounts_after, has_expired, positions_after}
 use Rattle.book.specs.Tables.{Tables, KeepsAccounts, KeepsMonths, KeepsPositions, KeepsTables}
 use Rattle.book.proofs.Charging.{map-each, get_each, get_or-each, length-each}
 use Rattle.book.proofs.CloseRows.{expiry-row}
@@ -121,7 +121,7 @@ module _ (w : World) (h : History) (t : Tables) (bounded : RatesLimited (rate_on
       let day = sym (day-told w h t k) in
       let latest = (k.months.each m row at).latest in
       let few = corrected-limited w h m l bounded in
-      let whole : saturated (corrected_to w (rate_on w h) (session_day h) (sessions_of w h) m) ≡ corrected_to w (rate_on w h) (session_day h) (sessions_of w h) m = omega arith in
+      let whole : price_in_32_bits (corrected_to w (rate_on w h) (session_day h) (sessions_of w h) m) ≡ corrected_to w (rate_on w h) (session_day h) (sessions_of w h) m = omega arith in
       rw (day, k.session.closed, latest, corrected-told w (rate_on w h) (session_day h) m (sessions_of w h), whole, settlement-told w h t m row k at) refl
 
   -- the adjustments of the accounts and months of the book
@@ -172,11 +172,11 @@ module _ (w : World) (h : History) (t : Tables) (limited : RatesLimited (rates_o
   abbrev c : Amounts
   c = amounts_at_close w h
 
-  accounts-close : (old : List ℤ) → KeepsAccounts (Closed c ∷ h) (charged_by (length t.months) (written_to h c.adjustments old) t.accounts)
+  accounts-close : (old : List ℤ) → KeepsAccounts (Closed c ∷ h) (accounts_after (length t.months) (written_to h c.adjustments old) t.accounts)
   accounts-close old = record {
-    accounts = map-each (λ a row. charged _ row) (λ row. row.account) (λ a row. refl) t.accounts 0 ∙ k.accounts.accounts;
+    accounts = map-each (λ a row. with_more_due _ row) (λ row. row.account) (λ a row. refl) t.accounts 0 ∙ k.accounts.accounts;
     amounts = λ a row at.
-        let was = get_each (λ a row. charged (int_wrap w64 (total (λ z. z) (take (length t.months) (drop (a * length t.months) (written_to h c.adjustments old))))) row) t.accounts 0 a a row (omega arith) at in
+        let was = get_each (λ a row. with_more_due (int_wrap w64 (total (λ z. z) (take (length t.months) (drop (a * length t.months) (written_to h c.adjustments old))))) row) t.accounts 0 a a row (omega arith) at in
         let now = k.accounts.amounts a was.0 was.1 in
         let none = nothing-due w h c a l in
         let moved = dues-move.closed h c a in
@@ -209,7 +209,7 @@ module _ (w : World) (h : History) (t : Tables) (limited : RatesLimited (rates_o
         rw (none, past.1) refl
   ]
 
-  positions-close : KeepsPositions w (Closed c ∷ h) (expired_by (day_in t) t.months t.positions)
+  positions-close : KeepsPositions w (Closed c ∷ h) (positions_after (day_in t) t.months t.positions)
   positions-close = record {
     whole = length-each _ t.positions 0 ∙ k.positions.whole;
     each = λ a m few listed.
@@ -219,7 +219,7 @@ module _ (w : World) (h : History) (t : Tables) (limited : RatesLimited (rates_o
         ∙ rw (month, expired-told m, k.positions.each a m few listed) (sym (positions-move.close w h c a m l));
   }
 
-  pub tables-close : (old : List ℤ) → KeepsTables w (Closed c ∷ h) (after_close (day_in t) (charged_by (length t.months) (written_to h c.adjustments old) t.accounts) (expired_by (day_in t) t.months t.positions) t)
+  pub tables-close : (old : List ℤ) → KeepsTables w (Closed c ∷ h) (after_close (day_in t) (accounts_after (length t.months) (written_to h c.adjustments old) t.accounts) (positions_after (day_in t) t.months t.positions) t)
   tables-close old =
       let day = day-told w h t k in
       record {

@@ -5,6 +5,7 @@ use Rattle.std.specs.Result.{IsErrAnd}
 use Rattle.std.proofs.lemmas.Bool.{cases_lt}
 use Rattle.std.proofs.lemmas.List.Elements.{filter-append}
 use Rattle.std.proofs.lemmas.List.{append-nil, map-append}
+use Rattle.std.proofs.lemmas.Simd.{map-map}
 use Rattle.amounts.specs.declared.adjustments.MonthPrices.{MonthPrices}
 use Rattle.calendar.specs.declared.kind.DayKind.{DayKind}
 use Rattle.calendar.specs.Kinds.{is_reserve}
@@ -17,21 +18,14 @@ use Rattle.interest.proofs.Corrections.{corrected-none, corrected-more}
 use Rattle.rows.specs.Rows.{Reason, reason_by}
 use Rattle.model.specs.Sessions.{gap_since}
 use Rattle.book.specs.declared.ledger.MonthRow.{MonthRow}
-use Rattle.book.specs.Closes.{saturated, prices_over, prices_before, prices_after, Corrects, Unrated}
-
-map-same : {X Y : Type 0} (f g : X → Y) (xs : List X) → ((x : X) → f x ≡ g x) → map f xs ≡ map g xs
-map-same f g xs same = λ i. map (λ x. same x i) xs
-
-map-both : {X Y Z : Type 0} (f : X → Y) (g : Y → Z) (xs : List X) → map g (map f xs) ≡ map (λ x. g (f x)) xs
-map-both f g [] = refl
-map-both f g (x ∷ xs) = ap (λ ys. g (f x) ∷ ys) (map-both f g xs)
+use Rattle.book.specs.Closes.{price_in_32_bits, prices_over, prices_before, prices_after, Corrects, Unrated}
 
 -- a price that no longer fits 32 bits never does again
-saturated-day : (price g : ℕ) → 100000000 ≤ g → saturated (corrected_day (saturated price) g) ≡ saturated (corrected_day price g)
-saturated-day price g least = elim (cases_lt price 4294967296) [
-  | inl few ↦ ap (λ p. saturated (corrected_day p g)) (let e : saturated price ≡ price = omega arith in e)
+price_in_32_bits-day : (price g : ℕ) → 100000000 ≤ g → price_in_32_bits (corrected_day (price_in_32_bits price) g) ≡ price_in_32_bits (corrected_day price g)
+price_in_32_bits-day price g least = elim (cases_lt price 4294967296) [
+  | inl few ↦ ap (λ p. price_in_32_bits (corrected_day p g)) (let e : price_in_32_bits price ≡ price = omega arith in e)
   | inr many ↦
-      let capped : saturated price ≡ 4294967295 = omega arith in
+      let capped : price_in_32_bits price ≡ 4294967295 = omega arith in
       let more : 4294967295 * g ≤ price * g = mul-le-mul_right g (omega arith) in
       rw capped (omega arith)
 ]
@@ -47,7 +41,7 @@ module _ (rates : ℕ → Option ℕ) (session : ℕ) where
       let least : 100000000 ≤ factor_on rates d = day-factor-least (unwrap_or (rates d) 0) in
       let all : corrected row.latest (factors rates (days ++ d ∷ [])) ≡ corrected_day (corrected row.latest (factors rates days)) (factor_on rates d) =
       ap (corrected row.latest) (map-append (factor_on rates) days (d ∷ [])) ∙ corrected-more row.latest (factors rates days) (factor_on rates d) in
-      let step = saturated-day (corrected row.latest (factors rates days)) (factor_on rates d) least ∙ ap saturated (sym all) in
+      let step = price_in_32_bits-day (corrected row.latest (factors rates days)) (factor_on rates d) least ∙ ap price_in_32_bits (sym all) in
       λ i. record (prices_over rates session days row) { corrected = step i }
 
 -- on the way over the gap: each reserve day so far has a rate, and the prices are corrected over them; where the gap is empty the walk does not begin
@@ -62,7 +56,7 @@ module _ (kinds : ℕ → DayKind) (rates : ℕ → Option ℕ) (session from : 
       let none = days-none is_reserve kinds from from (omega arith) in
       record {
         rated = ap (filter (is_unrated rates)) none;
-        corrected = is ∙ map-same _ _ rows (over-none rates session) ∙ ap (λ days. map (prices_over rates session days) rows) (sym none);
+        corrected = is ∙ (λ i. map (λ row. over-none rates session row i) rows) ∙ ap (λ days. map (prices_over rates session days) rows) (sym none);
         begun = λ _. refl;
       }
 
@@ -79,7 +73,7 @@ module _ (kinds : ℕ → DayKind) (rates : ℕ → Option ℕ) (session from : 
           record {
             rated = ap (filter (is_unrated rates)) more ∙ filter-append (is_unrated rates) days (day ∷ []) ∙ ap (λ xs. xs ++ filter (is_unrated rates) (day ∷ [])) so_far.rated
                 ∙ ap (λ b. cond (not b) (day ∷ []) []) (x.rated reserve);
-            corrected = is ∙ ap (map (prices_after (factor_on rates day))) so_far.corrected ∙ map-both _ _ rows ∙ map-same _ _ rows (over-more rates session days day)
+            corrected = is ∙ ap (map (prices_after (factor_on rates day))) so_far.corrected ∙ map-map _ _ rows ∙ (λ i. map (λ row. over-more rates session days day row i) rows)
                 ∙ ap (λ ds. map (prices_over rates session ds) rows) (sym more);
             begun = λ late. absurd (omega arith);
           }

@@ -49,20 +49,20 @@ abbrev pub gap_in : (ℕ → DayKind) → Tables → List ℕ
 gap_in kinds t = gap_since kinds t.session.closed (day_in t)
 
 -- a price as 32 bits hold it: their greatest number where it is more
-abbrev pub saturated : ℕ → ℕ
-saturated n = min n 4294967295
+abbrev pub price_in_32_bits : ℕ → ℕ
+price_in_32_bits n = min n 4294967295
 
 -- the prices of a month in the session of a day: the settlement price, and the latest before it, corrected over these days
 abbrev pub prices_over : (ℕ → Option ℕ) → ℕ → List ℕ → MonthRow → MonthPrices
-prices_over rates day days row = record { settlement = (priced day row).latest; corrected = saturated (corrected row.latest (factors rates days)) }
+prices_over rates day days row = record { settlement = (priced day row).latest; corrected = price_in_32_bits (corrected row.latest (factors rates days)) }
 
 -- before any day of them
 abbrev pub prices_before : ℕ → MonthRow → MonthPrices
-prices_before day row = record { settlement = (priced day row).latest; corrected = saturated row.latest }
+prices_before day row = record { settlement = (priced day row).latest; corrected = price_in_32_bits row.latest }
 
 -- after one more of this factor
 abbrev pub prices_after : ℕ → MonthPrices → MonthPrices
-prices_after factor prices = record prices { corrected = saturated (corrected_day prices.corrected factor) }
+prices_after factor prices = record prices { corrected = price_in_32_bits (corrected_day prices.corrected factor) }
 
 -- a reserve day without a rate
 pub record Unrated (kinds : ℕ → DayKind) (rates : ℕ → Option ℕ) (day : ℕ) : Type 0 where
@@ -82,21 +82,21 @@ changed_each change i [] = []
 changed_each change i (x ∷ xs) = change i x ∷ changed_each change (i + 1) xs
 
 -- an amount more is due
-abbrev pub charged : ℤ → AccountRow → AccountRow
-charged amount row = record row { due = int_wrap w64 (row.due +ℤ amount) }
+abbrev pub with_more_due : ℤ → AccountRow → AccountRow
+with_more_due amount row = record row { due = int_wrap w64 (row.due +ℤ amount) }
 
 -- the row of an account in cells with k months to an account
 abbrev pub row_in : ℕ → List ℤ → ℕ → List ℤ
 row_in k cells a = take k (drop (a * k) cells)
 
 -- to each account is due what its row adds up to
-abbrev pub charged_by : ℕ → List ℤ → List AccountRow → List AccountRow
-charged_by k cells rows = changed_each (λ a row. charged (int_wrap w64 (total (λ z. z) (row_in k cells a))) row) 0 rows
+abbrev pub accounts_after : ℕ → List ℤ → List AccountRow → List AccountRow
+accounts_after k cells rows = changed_each (λ a row. with_more_due (int_wrap w64 (total (λ z. z) (row_in k cells a))) row) 0 rows
 
 -- the month of an index is there, and its expiry is not after the day
 abbrev pub has_expired : ℕ → List MonthRow → ℕ → Bool
 has_expired day rows m = unwrap_or (option_map (λ row. nat_le row.expiry day) (slice_get rows m)) false
 
 -- the positions of such months are 0
-abbrev pub expired_by : ℕ → List MonthRow → List ℤ → List ℤ
-expired_by day rows cells = changed_each (λ i z. cond (has_expired day rows (i % 16)) (pos 0) z) 0 cells
+abbrev pub positions_after : ℕ → List MonthRow → List ℤ → List ℤ
+positions_after day rows cells = changed_each (λ i z. cond (has_expired day rows (i % 16)) (pos 0) z) 0 cells

@@ -9,7 +9,7 @@ ghost use Rattle.refusal.specs.declared.Refusal.TheVariants.{MissingRate};
 ghost use Rattle.rows.specs.Rows.{first_row, reason_by};
 ghost use Rattle.model.specs.Rows.{naming};
 ghost use Rattle.book.specs.Causes.{day_in};
-ghost use Rattle.book.specs.Closes.{gap_in, saturated, prices_over, prices_after, Corrects, Unrated};
+ghost use Rattle.book.specs.Closes.{gap_in, price_in_32_bits, prices_over, prices_after, Corrects, Unrated};
 
 use crate::ledger::Ledger;
 use amounts::{MAX_MONTHS, MonthPrices};
@@ -22,7 +22,7 @@ use refusal::Refusal;
 // A price after a reserve day of this factor. In a book that keeps a history it fits.
 fn after_day(price: u32, factor: u32) -> u32
     requires { factor ≤ 100275437 }
-    ensures { result ≡ saturated (corrected_day price factor) }
+    ensures { result ≡ price_in_32_bits (corrected_day price factor) }
 {
     let corrected = correct_day(price as u64, factor).unwrap();
     u32::try_from(corrected).unwrap_or(u32::MAX)

@@ -1,13 +1,14 @@
 // Sheets imported into a book: trades whose month is given by its number, line after line.
-ghost use Rattle.std.specs.Prelude.{◌≡◌};
+ghost use Rattle.std.specs.Prelude.{◌≡◌, Some};
+ghost use Rattle.std.specs.Option.{option_map};
 ghost use Rattle.refusal.specs.Refusals.{reason_of};
 ghost use Rattle.sheet.specs.Views.{view_trades};
 ghost use Rattle.model.specs.Answers.{price_now};
 ghost use Rattle.model.specs.History.{History, Traded};
-ghost use Rattle.model.specs.Imports.{import_lines, line_order, line_rows, line_trade};
+ghost use Rattle.model.specs.Imports.{book_stop, import_lines, line_order, line_rows, line_trade};
 ghost use Rattle.model.specs.World.{World};
 ghost use Rattle.book.specs.Calls.{Called};
-ghost use Rattle.book.specs.Imported.{index_of, Came, Imported};
+ghost use Rattle.book.specs.Imported.{index_of, stop_of, Came, Imported};
 
 #[cfg(test)]
 mod tests;
@@ -33,6 +34,22 @@ pub struct ImportStop {
 pub struct ImportOutcome {
     pub taken: usize,
     pub stop: Option<ImportStop>,
+}
+
+impl ImportOutcome {
+    // The book refuses the line after those that were taken.
+    fn refused(taken: usize, refusal: Refusal) -> ImportOutcome
+        ensures { (result.taken ≡ taken) × (option_map stop_of result.stop ≡ Some (book_stop taken (reason_of refusal))) }
+    {
+        ImportOutcome {
+            taken,
+            stop: Some(ImportStop {
+                line: taken,
+                refusal,
+                layer: Layer::Book,
+            }),
+        }
+    }
 }
 
 impl<C: Calendar, S: RateSource> Book<C, S> {
@@ -67,14 +84,7 @@ impl<C: Calendar, S: RateSource> Book<C, S> {
         let mut taken = 0;
         for line in view.trades() {
             if let Err(refusal) = self.trade_line(ticket, line) {
-                return ImportOutcome {
-                    taken,
-                    stop: Some(ImportStop {
-                        line: taken,
-                        refusal,
-                        layer: Layer::Book,
-                    }),
-                };
+                return ImportOutcome::refused(taken, refusal);
             }
             taken += 1;
         }

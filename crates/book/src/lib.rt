@@ -1,9 +1,9 @@
 // A position book over any calendar and any source of rates.
 #![tactic(auto)]
 
-mod import;
 mod closing;
 mod gap;
+mod import;
 mod ledger;
 mod position_book;
 mod references;

@@ -162,10 +162,7 @@ impl<C: Calendar, S: Topmost<C>> Desk<C, S> {
         let Some(held) = self.ticket.take() else {
             return Reply::NoTicket;
         };
-        match self
-            .book
-            .close(held, &mut adjustments, &mut day_trades)
-        {
+        match self.book.close(held, &mut adjustments, &mut day_trades) {
             Ok(slip) => {
                 self.hold(slip);
                 Reply::Closed(Closing {

@@ -34,7 +34,11 @@ impl<C: Calendar> Topmost<C> for TableSource {
 
     ghost arbitrates = { false };
 
-    fn publish(book: &mut Book<C, Self>, entry: DayRate, period: u32) -> Option<Result<(), Refusal>> {
+    fn publish(
+        book: &mut Book<C, Self>,
+        entry: DayRate,
+        period: u32,
+    ) -> Option<Result<(), Refusal>> {
         Some(book.publish(entry, period))
     }
 
@@ -48,7 +52,11 @@ impl<C: Calendar, S: Publishing> Topmost<C> for ArbitrationLayer<S> {
 
     ghost arbitrates = { true };
 
-    fn publish(book: &mut Book<C, Self>, entry: DayRate, period: u32) -> Option<Result<(), Refusal>> {
+    fn publish(
+        book: &mut Book<C, Self>,
+        entry: DayRate,
+        period: u32,
+    ) -> Option<Result<(), Refusal>> {
         Some(book.publish(entry, period))
     }
 
@@ -62,7 +70,11 @@ impl<C: Calendar> Topmost<C> for FlatSource {
 
     ghost arbitrates = { false };
 
-    fn publish(_book: &mut Book<C, Self>, _entry: DayRate, _period: u32) -> Option<Result<(), Refusal>> {
+    fn publish(
+        _book: &mut Book<C, Self>,
+        _entry: DayRate,
+        _period: u32,
+    ) -> Option<Result<(), Refusal>> {
         None
     }
 

@@ -48,8 +48,8 @@ cause BadPrice = codes "price not from 1 to 10,000,000"
 cause SessionOpen = codes "a session is open"
 cause NoSession = codes "no session in the next 60 days"
 cause Unpaid = codes "an earlier slip is unpaid"
-cause (Unmarked month) = codes "month without a settlement price: index"
-cause (MissingRate day) = codes "reserve day without a rate: day"
+cause (Unmarked month) = codes "month without a settlement price"
+cause (MissingRate day) = codes "reserve day without a rate"
 cause ArrayShort = codes "array too short"
 cause NoLaterSession = codes "no later session is open"
 cause TableFull = codes "table full"
@@ -62,10 +62,8 @@ cause BadPeriod = codes "period is not 1"
 cause ArbitrationFull = codes "16 days arbitrated already"
 cause BadSheet = codes "bad sheet"
 
--- what staff read: the cause, and the value where there is one
-abbrev pub with_values : List ℕ → List ℕ → List ℕ
-with_values words [] = words
-with_values words (n ∷ ns) = with_values (words ++ codes " " ++ decimal n) ns
-
+-- what staff read: the cause, and the month or the day that it names
 abbrev pub message : Refusal → List ℕ
-message r = with_values (cause r) (reason_of r).values
+message (Unmarked month) = cause (Unmarked month) ++ codes ": index " ++ decimal month
+message (MissingRate day) = cause (MissingRate day) ++ codes ": day " ++ decimal day
+message r = cause r

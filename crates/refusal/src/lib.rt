@@ -1,7 +1,7 @@
 // Why a call is refused: one cause for the whole project, with its number and a message.
 #![tactic(auto)]
 
-ghost use Rattle.std.specs.Prelude.{◌≡◌, Some, slice_get};
+ghost use Rattle.std.specs.Prelude.{◌≡◌, Some};
 ghost use Rattle.rates.specs.Errors as rate_errors;
 ghost use Rattle.sheet.specs.Faults.{fault_reason, write_reason};
 ghost use Rattle.refusal.specs.Refusals.{reason_of, cause, message};
@@ -78,8 +78,8 @@ impl Refusal {
         }
     }
 
-    // The cause in words.
-    fn cause(self) -> &'static str
+    /// The cause in words, without the month or the day that it names.
+    pub fn cause(self) -> &'static str
         ensures { result.now ≡ cause self }
     {
         match self {
@@ -96,8 +96,8 @@ impl Refusal {
             Refusal::SessionOpen => "a session is open",
             Refusal::NoSession => "no session in the next 60 days",
             Refusal::Unpaid => "an earlier slip is unpaid",
-            Refusal::Unmarked(_) => "month without a settlement price: index",
-            Refusal::MissingRate(_) => "reserve day without a rate: day",
+            Refusal::Unmarked(_) => "month without a settlement price",
+            Refusal::MissingRate(_) => "reserve day without a rate",
             Refusal::ArrayShort => "array too short",
             Refusal::NoLaterSession => "no later session is open",
             Refusal::TableFull => "table full",
@@ -111,17 +111,6 @@ impl Refusal {
             Refusal::BadSheet => "bad sheet",
         }
     }
-
-    // The month or the day that the refusal names.
-    fn value(self) -> Option<u32>
-        ensures { result ≡ slice_get (reason_of self).values 0 }
-    {
-        match self {
-            Refusal::Unmarked(month) => Some(month),
-            Refusal::MissingRate(day) => Some(day),
-            _ => None,
-        }
-    }
 }
 
 // Kept: a derived Display states no output, which pins the words.
@@ -130,9 +119,10 @@ impl fmt::Display for Refusal {
 
     fn fmt<W: fmt::Write>(&self, f: &mut fmt::Formatter<W>) -> fmt::Result {
         let cause = self.cause();
-        match self.value() {
-            Some(value) => write!(f, "{cause} {value}"),
-            None => write!(f, "{cause}"),
+        match self {
+            Refusal::Unmarked(month) => write!(f, "{cause}: index {month}"),
+            Refusal::MissingRate(day) => write!(f, "{cause}: day {day}"),
+            _ => write!(f, "{cause}"),
         }
     }
 }

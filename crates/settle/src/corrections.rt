@@ -1,16 +1,14 @@
 // A settlement price corrected over the reserve days of a gap, day by day.
-use crate::failure::{Complaint, Failure, in_words, or_no_such};
-use crate::figures::{
-    Counted, DI_PLACES, FACTOR_PLACES, Fixed, PRICE_PLACES, Points, RATE_TOO_HIGH, day_of, decimal,
-};
+use crate::failure::{Complaint, Failure, in_words};
+use crate::figures::{Counted, FACTOR_PLACES, Fixed, Points, RATE_TOO_HIGH, date};
 use crate::office::{Office, read_office};
+use crate::words::{DI_PLACES, day, price};
 use calendar::kind::Calendar;
 use calendar::span::count_reserve_days;
 use correction::{Gap, Uncorrected, correct};
-use dates::Day;
 use interest::{correct_day, day_factor};
 use rates::source::RateSource;
-use std::alloc::{AllocError, Global};
+use std::alloc::Global;
 use std::fmt;
 
 const HEADING: &str = "reserve day     rate %  source          factor       price\n";
@@ -19,10 +17,10 @@ const HEADING: &str = "reserve day     rate %  source          factor       pric
 const MAX_PRICE: u32 = 10_000_000;
 
 // The gap that three words say.
-fn gap_of<'a>(from: &'a str, to: &'a str, price: &'a str) -> Result<Gap, Complaint<'a>> {
-    let from = day_of(from)?;
-    let to = day_of(to)?;
-    let price = or_no_such("no price", price, decimal(price, PRICE_PLACES))?;
+fn gap_of<'a>(from: &'a str, to: &'a str, points: &'a str) -> Result<Gap, Complaint<'a>> {
+    let from = day(from)?;
+    let to = day(to)?;
+    let price = price(points)?;
     if price == 0 || price > MAX_PRICE {
         return Err(Complaint::Words("price not from 0.01 to 100 000.00"));
     }
@@ -67,27 +65,6 @@ impl Correction<'_> {
         Ok(Points { hundredths })
     }
 
-    // The row of a reserve day, with its rate, the factor and the price after it.
-    fn row(
-        &self,
-        heap: Global,
-        day: u32,
-        rate: Fixed,
-        factor: Fixed,
-        price: Points,
-    ) -> Result<String, AllocError> {
-        let source = if self.office.rates.is_arbitrated(day) {
-            "arbitrated"
-        } else {
-            "published"
-        };
-        let date = format!(in heap; "{}", Day { number: day })?;
-        let rate = format!(in heap; "{rate}")?;
-        let factor = format!(in heap; "{factor}")?;
-        let price = format!(in heap; "{price}")?;
-        format!(in heap; "{date:<11}  {rate:>9}  {source:<10}  {factor:>10}  {price:>10}\n")
-    }
-
     // The rate of a day that has one.
     fn rate_on(&self, day: u32) -> Result<u32, Uncorrected> {
         self.office
@@ -96,25 +73,37 @@ impl Correction<'_> {
             .ok_or(Uncorrected::MissingRate(day))
     }
 
+    // Adds the row of a reserve day, with its rate, the factor and the price after it, and answers the
+    // factor.
+    fn push_row(&self, text: &mut String, day: u32) -> Result<u32, Complaint<'static>> {
+        let price = self.corrected_to(day + 1)?;
+        let rate = self.rate_on(day)?;
+        let value = day_factor(rate).ok_or(Complaint::Words(RATE_TOO_HIGH))?;
+        let source = if self.office.rates.is_arbitrated(day) {
+            "arbitrated"
+        } else {
+            "published"
+        };
+        let date = date(day);
+        let rate = Fixed {
+            value: rate,
+            places: DI_PLACES,
+        };
+        let factor = Fixed {
+            value,
+            places: FACTOR_PLACES,
+        };
+        write!(text, "{date}   {rate:>9}  {source:<10}  {factor:>10}  {price:>10}\n")?;
+        Ok(value)
+    }
+
     // The rows of the reserve days, and the factor of the last of them.
     fn rows(&self, heap: Global) -> Result<(String, Option<u32>), Complaint<'static>> {
         let mut text = String::new(heap);
         let mut last = None;
         for day in self.gap.from..self.gap.to {
             if self.office.calendar.kind(day).is_reserve() {
-                let price = self.corrected_to(day + 1)?;
-                let rate = self.rate_on(day)?;
-                let factor = day_factor(rate).ok_or(Complaint::Words(RATE_TOO_HIGH))?;
-                last = Some(factor);
-                let rate = Fixed {
-                    value: rate,
-                    places: DI_PLACES,
-                };
-                let factor = Fixed {
-                    value: factor,
-                    places: FACTOR_PLACES,
-                };
-                text.push_str(self.row(heap, day, rate, factor, price)?.as_str())?;
+                last = Some(self.push_row(&mut text, day)?);
             }
         }
         Ok((text, last))
@@ -129,12 +118,12 @@ impl Correction<'_> {
         let corrected = self.corrected_to(to)?;
         let (rows, last) = self.rows(heap)?;
         let days = Counted {
-            count: count_reserve_days(&self.office.calendar, from, to) as u64,
+            count: i64::from(count_reserve_days(&self.office.calendar, from, to)),
             one: "reserve day",
             many: "reserve days",
         };
-        let from = Day { number: from };
-        let to = Day { number: to };
+        let from = date(from);
+        let to = date(to);
         let alone = LastAlone { price, last };
         let head = format!(in heap; "from {from} at {start}\n{HEADING}{rows}")?;
         Ok(format!(in heap; "{head}to {to}: {corrected} over {days}\n{alone}")?)

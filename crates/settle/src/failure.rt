@@ -13,10 +13,18 @@ use thiserror::Error;
 pub(crate) enum Complaint<'a> {
     #[error("{0}")]
     Words(&'static str),
-    #[error("{what}: {word}")]
-    NoSuch { what: &'static str, word: &'a str },
+    #[error("expected: {0}")]
+    Expected(&'static str),
+    #[error("{what}: {word}; expected {expected}")]
+    NoSuch {
+        what: &'static str,
+        word: &'a str,
+        expected: &'static str,
+    },
     #[error("cannot read {0}")]
     CannotRead(&'a str),
+    #[error("cannot read {0}: over 64 MiB")]
+    TooLarge(&'a str),
     #[error("cannot write {0}")]
     CannotWrite(&'a str),
     #[error("{0}")]
@@ -78,17 +86,11 @@ impl Complaint<'_> {
 }
 
 // What the words of a command gave.
-pub(crate) fn in_words<T: Drop>(heap: Global, answer: Result<T, Complaint<'_>>) -> Result<T, Failure> {
+pub(crate) fn in_words<T: Drop>(
+    heap: Global,
+    answer: Result<T, Complaint<'_>>,
+) -> Result<T, Failure> {
     answer.try_map_err(|complaint| Ok(Failure::InWords(complaint.words(heap)?)))
-}
-
-// What a word gave, or a complaint that names it.
-pub(crate) fn or_no_such<'a, T: Drop>(
-    what: &'static str,
-    word: &'a str,
-    value: Option<T>,
-) -> Result<T, Complaint<'a>> {
-    value.ok_or(Complaint::NoSuch { what, word })
 }
 
 // A file by its name, and where complaints about it are written.

@@ -1,19 +1,14 @@
-// Rates, factors and prices as people write them.
-ghost use Rattle.std.specs.Prelude.{◌≤◌, IfOk};
-
-use crate::failure::{Complaint, or_no_such};
-use dates::Date;
+// Figures as people read them: rates, factors, prices, amounts and counts. Where a width is asked for,
+// a figure stands to the right in it.
+use crate::failure::Complaint;
+use crate::words::{RATE_PLACES, dealt_rate, di_rate, number};
+use dates::Day;
 use interest::{day_factor, trade_price};
+use sheet::ContractCode;
 use std::alloc::Global;
 use std::fmt;
 
-// Decimals after the point of a dealt rate, a price, a DI rate and a day factor.
-pub(crate) const RATE_PLACES: u32 = 3;
-
-pub(crate) const PRICE_PLACES: u32 = 2;
-
-pub(crate) const DI_PLACES: u32 = 6;
-
+// Decimals after the point of a day factor.
 pub(crate) const FACTOR_PLACES: u32 = 8;
 
 // A DI rate that has no day factor.
@@ -26,13 +21,24 @@ pub(crate) struct Fixed {
     pub(crate) places: u32,
 }
 
+impl Fixed {
+    // A dealt rate, in thousandths of a percent.
+    pub(crate) fn dealt_rate(value: u32) -> Fixed {
+        Fixed {
+            value,
+            places: RATE_PLACES,
+        }
+    }
+}
+
 impl fmt::Display for Fixed {
     fn fmt<W: fmt::Write>(&self, f: &mut fmt::Formatter<W>) -> fmt::Result {
         let unit = 10u32.saturating_pow(self.places).max(1);
         let places = self.places as usize;
         let whole = self.value / unit;
         let rest = self.value % unit;
-        write!(f, "{whole}.{rest:0places$}")
+        let before = f.width().unwrap_or(0).saturating_sub(places.saturating_add(1));
+        write!(f, "{whole:>before$}.{rest:0places$}")
     }
 }
 
@@ -44,14 +50,37 @@ pub(crate) struct Points {
 
 impl fmt::Display for Points {
     fn fmt<W: fmt::Write>(&self, f: &mut fmt::Formatter<W>) -> fmt::Result {
+        let width = f.width().unwrap_or(0);
         let points = self.hundredths / 100;
         let rest = self.hundredths % 100;
         let thousands = points / 1_000;
         let ones = points % 1_000;
         if thousands > 0 {
-            write!(f, "{thousands} {ones:03}.{rest:02}")
+            let before = width.saturating_sub(7);
+            write!(f, "{thousands:>before$} {ones:03}.{rest:02}")
         } else {
-            write!(f, "{ones}.{rest:02}")
+            let before = width.saturating_sub(3);
+            write!(f, "{ones:>before$}.{rest:02}")
+        }
+    }
+}
+
+// An amount of so many hundredths, in reais, with a minus where it is below 0.
+#[derive(Clone, Copy)]
+pub(crate) struct Reais {
+    pub(crate) centavos: i64,
+}
+
+impl fmt::Display for Reais {
+    fn fmt<W: fmt::Write>(&self, f: &mut fmt::Formatter<W>) -> fmt::Result {
+        let before = f.width().unwrap_or(0).saturating_sub(3);
+        let whole = self.centavos / 100;
+        let rest = self.centavos.unsigned_abs() % 100;
+        if self.centavos < 0 && whole == 0 {
+            let whole = "-0";
+            write!(f, "{whole:>before$}.{rest:02}")
+        } else {
+            write!(f, "{whole:>before$}.{rest:02}")
         }
     }
 }
@@ -59,63 +88,75 @@ impl fmt::Display for Points {
 // A count of things, in the word for one or for many.
 #[derive(Clone, Copy)]
 pub(crate) struct Counted {
-    pub(crate) count: u64,
+    pub(crate) count: i64,
     pub(crate) one: &'static str,
     pub(crate) many: &'static str,
 }
 
+impl Counted {
+    pub(crate) fn lines(count: i64) -> Counted {
+        Counted {
+            count,
+            one: "line",
+            many: "lines",
+        }
+    }
+
+    pub(crate) fn contracts(count: i64) -> Counted {
+        Counted {
+            count,
+            one: "contract",
+            many: "contracts",
+        }
+    }
+}
+
 impl fmt::Display for Counted {
     fn fmt<W: fmt::Write>(&self, f: &mut fmt::Formatter<W>) -> fmt::Result {
-        let word = if self.count == 1 { self.one } else { self.many };
+        let alone = self.count == 1 || self.count == -1;
+        let word = if alone { self.one } else { self.many };
         write!(f, "{} {word}", self.count)
     }
 }
 
-// A number of digits alone.
-pub(crate) fn number(text: &str) -> Option<u32> {
-    if text.starts_with('+') {
-        return None;
+// The code of a month, shown as nothing where it has none.
+#[derive(Clone, Copy)]
+pub(crate) struct Code {
+    pub(crate) month: u32,
+}
+
+impl fmt::Display for Code {
+    fn fmt<W: fmt::Write>(&self, f: &mut fmt::Formatter<W>) -> fmt::Result {
+        match ContractCode::new(self.month) {
+            Some(code) => write!(f, "{code}"),
+            None => Ok(()),
+        }
     }
-    text.parse::<u32>().ok()
 }
 
-// A number with a point and up to so many decimals, in units of the last of them.
-pub(crate) fn decimal(text: &str, places: u32) -> Option<u32> {
-    let Some((whole, decimals)) = text.split_once('.') else {
-        return number(text)?.checked_mul(10u32.checked_pow(places)?);
-    };
-    let missing = places.checked_sub(u32::try_from(decimals.len()).ok()?)?;
-    let fraction = number(decimals)?.checked_mul(10u32.checked_pow(missing)?)?;
-    number(whole)?
-        .checked_mul(10u32.checked_pow(places)?)?
-        .checked_add(fraction)
+// A day by its number, as it is printed.
+pub(crate) fn date(number: u32) -> Day {
+    Day { number }
 }
 
-// The day of a date.
-pub(crate) fn day_of<'a>(word: &'a str) -> Result<u32, Complaint<'a>>
-    ensures { IfOk result (λ day. day ≤ 36524) }
-{
-    let date = or_no_such("no date", word, word.parse::<Date>().ok())?;
-    Ok(date.day_number())
-}
-
-pub(crate) fn price<'a>(
+// The print of the command `price`.
+pub(crate) fn price_print<'a>(
     heap: Global,
     rate: &'a str,
     days: &'a str,
 ) -> Result<String, Complaint<'a>> {
-    let dealt = or_no_such("no rate", rate, decimal(rate, RATE_PLACES))?;
-    let count = or_no_such("no number", days, number(days))?;
+    let dealt = dealt_rate(rate)?;
+    let count = number(days)?;
     let price = Points {
         hundredths: trade_price(dealt, count)? as u64,
     };
     Ok(format!(in heap; "{price}\n")?)
 }
 
-pub(crate) fn factor<'a>(heap: Global, rate: &'a str) -> Result<String, Complaint<'a>> {
-    let di = or_no_such("no rate", rate, decimal(rate, DI_PLACES))?;
+// The print of the command `factor`.
+pub(crate) fn factor_print<'a>(heap: Global, rate: &'a str) -> Result<String, Complaint<'a>> {
     let factor = Fixed {
-        value: day_factor(di).ok_or(Complaint::Words(RATE_TOO_HIGH))?,
+        value: day_factor(di_rate(rate)?).ok_or(Complaint::Words(RATE_TOO_HIGH))?,
         places: FACTOR_PLACES,
     };
     Ok(format!(in heap; "{factor}\n")?)

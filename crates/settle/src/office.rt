@@ -1,11 +1,12 @@
-// The office file: the calendar on which sheets are priced, and the rates by which prices are
-// corrected.
+// The lines of an office: the calendar on which sheets are priced and a book stands, and the rates by
+// which prices are corrected.
 ghost use Rattle.settle.specs.Office.{office_kinds};
 ghost use Rattle.std.proofs.Common.{rules};
 
-use crate::failure::{Complaint, Failure, Source, in_words, or_no_such};
-use crate::figures::{DI_PLACES, day_of, decimal, number};
-use crate::texts::{Line, lines_of, read_from};
+use crate::failure::{Complaint, Failure, Source, in_words};
+use crate::files::{read_bytes, read_text};
+use crate::texts::{Line, lines_of};
+use crate::words::{day, di_rate, number, or_no_such};
 use calendar::kind::{Calendar, DayKind};
 use calendar::marked::MarkedCalendar;
 use calendar::rule::{Exception, RuleCalendar};
@@ -15,10 +16,17 @@ use rates::layer::ArbitrationLayer;
 use rates::source::{Arbitrating, Publishing};
 use rates::table::TableSource;
 use std::alloc::{AllocError, Global};
-use std::fs;
 
 // The most days of a table of rates: those of the calendar.
 const MAX_TABLE_DAYS: u32 = LAST_DAY + 1;
+
+const CALENDAR_FORM: &str = "calendar rule, or calendar marked FILE";
+
+const NO_CALENDAR: &str =
+    "no calendar line; expected first: calendar rule, or calendar marked FILE";
+
+// The lines that may follow the calendar line of an office file.
+const OFFICE_WORDS: &str = "exception, rates, rate or arbitrate";
 
 // Published rates, and above them arbitrated ones.
 pub(crate) type OfficeRates = ArbitrationLayer<TableSource>;
@@ -49,17 +57,17 @@ pub(crate) struct Office {
     pub(crate) rates: OfficeRates,
 }
 
-// What the lines have said so far of the calendar; a marked one takes no exception.
+// What a calendar line says: the bytes of the marks, or that the week rules.
 #[derive(Drop)]
-enum Days {
+pub(crate) enum Make {
     Marked(Vec<u8>),
-    Rule(Vec<Exception>),
+    Rule,
 }
 
 // What the lines have said so far.
 #[derive(Drop)]
 struct Draft {
-    days: Days,
+    exceptions: Vec<Exception>,
     rates: Option<OfficeRates>,
 }
 
@@ -80,21 +88,21 @@ fn kind_of_day(word: &str) -> Option<DayKind> {
 // An exception line.
 fn exception<'a>(words: &[&'a str]) -> Result<Exception, Complaint<'a>> {
     let ["exception", date, kind] = words else {
-        return Err(Complaint::Words("expected: exception DATE closed, reserve or session"));
+        return Err(Complaint::Expected("exception DATE closed, reserve or session"));
     };
-    Ok(Exception {
-        day: day_of(date)?,
-        kind: or_no_such("no kind of day", kind, kind_of_day(kind))?,
-    })
+    let day = day(date)?;
+    let expected = "closed, reserve or session";
+    let kind = or_no_such("no kind of day", kind, expected, kind_of_day(kind))?;
+    Ok(Exception { day, kind })
 }
 
 // A rates line.
 fn rates_line<'a>(heap: Global, words: &[&'a str]) -> Result<OfficeRates, Complaint<'a>> {
     let ["rates", "table", first, count] = words else {
-        return Err(Complaint::Words("expected: rates table FIRST COUNT"));
+        return Err(Complaint::Expected("rates table FIRST COUNT"));
     };
-    let first = day_of(first)?;
-    let count = or_no_such("no number", count, number(count))?;
+    let first = day(first)?;
+    let count = number(count)?;
     if count > MAX_TABLE_DAYS {
         return Err(Complaint::Words("over 36525 days"));
     }
@@ -102,34 +110,25 @@ fn rates_line<'a>(heap: Global, words: &[&'a str]) -> Result<OfficeRates, Compla
 }
 
 // The day and the rate of a line of three words.
-fn day_rate<'a>(expected: &'static str, words: &[&'a str]) -> Result<DayRate, Complaint<'a>> {
+fn day_rate<'a>(form: &'static str, words: &[&'a str]) -> Result<DayRate, Complaint<'a>> {
     let [_, date, percent] = words else {
-        return Err(Complaint::Words(expected));
+        return Err(Complaint::Expected(form));
     };
     Ok(DayRate {
-        day: day_of(date)?,
-        rate: or_no_such("no rate", percent, decimal(percent, DI_PLACES))?,
+        day: day(date)?,
+        rate: di_rate(percent)?,
     })
 }
 
 impl Draft {
-    // The calendar line.
-    fn begin<'a>(rt: &HostRuntime, words: &[&'a str]) -> Result<Draft, Complaint<'a>> {
-        let days = match words {
-            ["calendar", "rule"] => Days::Rule(Vec::new(rt.alloc())),
-            ["calendar", "marked", path] => Days::Marked(read_from(path, fs::read(rt, path))?),
-            ["calendar", ..] => {
-                return Err(Complaint::Words("expected: calendar rule, or calendar marked FILE"));
-            }
-            _ => return Err(Complaint::Words("no calendar line")),
-        };
-        Ok(Draft { days, rates: None })
-    }
-
-    fn take_exception<'a>(&mut self, words: &[&'a str]) -> Result<(), Complaint<'a>> {
-        match &mut self.days {
-            Days::Marked(_) => Err(Complaint::Words("a marked calendar takes no exception")),
-            Days::Rule(exceptions) => Ok(exceptions.push(exception(words)?)?),
+    fn take_exception<'a>(
+        &mut self,
+        make: &Make,
+        words: &[&'a str],
+    ) -> Result<(), Complaint<'a>> {
+        match make {
+            Make::Marked(_) => Err(Complaint::Words("a marked calendar takes no exception")),
+            Make::Rule => Ok(self.exceptions.push(exception(words)?)?),
         }
     }
 
@@ -143,51 +142,94 @@ impl Draft {
 
     // The rates of the line before.
     fn rates_so_far<'a>(&mut self) -> Result<&mut OfficeRates, Complaint<'a>> {
-        self.rates
-            .as_mut()
-            .ok_or(Complaint::Words("no rates line before"))
+        let missing = "no rates line before; expected: rates table FIRST COUNT";
+        self.rates.as_mut().ok_or(Complaint::Words(missing))
     }
 
     fn publish<'a>(&mut self, words: &[&'a str]) -> Result<(), Complaint<'a>> {
         let rates = self.rates_so_far()?;
-        let entry = day_rate("expected: rate DATE PERCENT", words)?;
+        let entry = day_rate("rate DATE PERCENT", words)?;
         Ok(rates.publish(entry, 1)?)
     }
 
     fn arbitrate<'a>(&mut self, words: &[&'a str]) -> Result<(), Complaint<'a>> {
         let rates = self.rates_so_far()?;
-        let entry = day_rate("expected: arbitrate DATE PERCENT", words)?;
+        let entry = day_rate("arbitrate DATE PERCENT", words)?;
         Ok(rates.arbitrate(entry)?)
     }
 
+    // The office that the lines have said; without a rates line it has no rates.
+    fn finish(self, heap: Global, make: &Make) -> Result<Office, AllocError> {
+        let Draft { exceptions, rates } = self;
+        let calendar = match make {
+            Make::Marked(marks) => OfficeCalendar::Marked(MarkedCalendar::new(marks.clone()?)),
+            Make::Rule => OfficeCalendar::Rule(RuleCalendar::new(heap, exceptions.as_slice())?),
+        };
+        let rates = rates.map_or_else(|| new_rates(heap, 0, 0), Ok)?;
+        Ok(Office { calendar, rates })
+    }
+}
+
+// The lines of an office in a file: its calendar line's, and the first words that others may have.
+#[derive(Clone, Copy)]
+pub(crate) struct OfficeLines<'a> {
+    pub(crate) source: Source<'a>,
+    pub(crate) make: &'a Make,
+    pub(crate) expected: &'static str,
+}
+
+impl OfficeLines<'_> {
     // A line after the calendar line.
-    fn take_line<'a>(&mut self, heap: Global, words: &[&'a str]) -> Result<(), Complaint<'a>> {
+    fn take_line<'a>(&self, draft: &mut Draft, words: &[&'a str]) -> Result<(), Complaint<'a>> {
         match words {
-            ["exception", ..] => self.take_exception(words),
-            ["rates", ..] => self.take_rates(heap, words),
-            ["rate", ..] => self.publish(words),
-            ["arbitrate", ..] => self.arbitrate(words),
+            ["exception", ..] => draft.take_exception(self.make, words),
+            ["rates", ..] => draft.take_rates(self.source.heap, words),
+            ["rate", ..] => draft.publish(words),
+            ["arbitrate", ..] => draft.arbitrate(words),
             ["calendar", ..] => Err(Complaint::Words("a second calendar")),
             [word, ..] => Err(Complaint::NoSuch {
                 what: "unknown word",
                 word,
+                expected: self.expected,
             }),
             [] => Ok(()),
         }
     }
 
-    // The office that the lines have said; without a rates line it has no rates.
-    fn finish(self, heap: Global) -> Result<Office, AllocError> {
-        let Draft { days, rates } = self;
-        let calendar = match days {
-            Days::Marked(marks) => OfficeCalendar::Marked(MarkedCalendar::new(marks)),
-            Days::Rule(exceptions) => OfficeCalendar::Rule(RuleCalendar::new(
-                heap,
-                exceptions.as_slice(),
-            )?),
+    // The office that the calendar line and these lines after it say.
+    pub(crate) fn office(&self, lines: &[Line]) -> Result<Office, Failure> {
+        let heap = self.source.heap;
+        let mut draft = Draft {
+            exceptions: Vec::new(heap),
+            rates: None,
         };
-        let rates = rates.map_or_else(|| new_rates(heap, 0, 0), Ok)?;
-        Ok(Office { calendar, rates })
+        for Line { number, words } in lines {
+            let taken = self.take_line(&mut draft, words.as_slice());
+            self.source.at_line(*number, taken)?;
+        }
+        Ok(draft.finish(heap, self.make)?)
+    }
+}
+
+// What a calendar line says.
+fn make_of<'a>(rt: &HostRuntime, words: &[&'a str]) -> Result<Make, Complaint<'a>> {
+    match words {
+        ["calendar", "rule"] => Ok(Make::Rule),
+        ["calendar", "marked", path] => Ok(Make::Marked(read_bytes(rt, path, path)?)),
+        ["calendar", ..] => Err(Complaint::Expected(CALENDAR_FORM)),
+        _ => Err(Complaint::Words(NO_CALENDAR)),
+    }
+}
+
+// What the calendar line says, which is the first of these lines.
+pub(crate) fn calendar_make(
+    rt: &HostRuntime,
+    source: &Source<'_>,
+    lines: &[Line],
+) -> Result<Make, Failure> {
+    match lines.first() {
+        Some(first) => source.at_line(first.number, make_of(rt, first.words.as_slice())),
+        None => source.at_line(1, Err(Complaint::Words(NO_CALENDAR))),
     }
 }
 
@@ -195,14 +237,13 @@ impl Draft {
 pub(crate) fn read_office(rt: &HostRuntime, file: &str) -> Result<Office, Failure> {
     let heap = rt.alloc();
     let source = Source { heap, file };
-    let text = in_words(heap, read_from(file, fs::read_to_string(rt, file)))?;
+    let text = in_words(heap, read_text(rt, file))?;
     let lines = lines_of(heap, text.as_str())?;
-    let Some((first, rest)) = lines.as_slice().split_first() else {
-        return source.at_line(1, Err(Complaint::Words("no calendar line")));
+    let make = calendar_make(rt, &source, lines.as_slice())?;
+    let office = OfficeLines {
+        source,
+        make: &make,
+        expected: OFFICE_WORDS,
     };
-    let mut draft = source.at_line(first.number, Draft::begin(rt, first.words.as_slice()))?;
-    for Line { number, words } in rest {
-        source.at_line(*number, draft.take_line(heap, words.as_slice()))?;
-    }
-    Ok(draft.finish(heap)?)
+    office.office(lines.get(1..).unwrap_or(&[]))
 }

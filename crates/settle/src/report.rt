@@ -1,41 +1,33 @@
 // The lines of a sheet priced on the office's calendar, and their totals.
 use crate::failure::{Complaint, Failure, Source, in_words};
-use crate::figures::{Counted, Fixed, Points, RATE_PLACES};
+use crate::figures::{Code, Counted, Fixed, Points, date};
+use crate::files::read_bytes;
 use crate::office::{OfficeCalendar, read_office};
-use crate::sheets::{Code, view};
-use crate::texts::read_from;
+use crate::price_rows::{json_print, write_price_tables};
+use crate::sheets::view;
+use crate::tables::TableFolder;
 use calendar::kind::Calendar;
 use calendar::span::{count_reserve_days, expiry};
-use dates::Day;
-use pricing::{AnyTrade, InMonth, OnCalendar, Sides, add_up, in_price, price_trade};
+use pricing::{AnyTrade, Cause, InMonth, OnCalendar, Sides, Tally, add_up, in_price, price_trade};
 use sheet::{SheetView, TradeLine};
 use std::alloc::{AllocError, Global};
-use std::{fmt, fs};
+use std::fmt;
 
 const HEADING: &str =
     "line  rate buyer  rate seller  PU buyer  PU seller  code    expiry      days    rate %  contracts          PU\n";
 
-fn lines(count: u32) -> Counted {
-    Counted {
-        count: count as u64,
-        one: "line",
-        many: "lines",
-    }
-}
-
-fn contracts(count: u64) -> Counted {
-    Counted {
-        count,
-        one: "contract",
-        many: "contracts",
-    }
+// What the command `prices` is asked to print and to write.
+#[derive(Clone, Copy)]
+pub(crate) struct PriceOptions<'a> {
+    pub(crate) json: bool,
+    pub(crate) csv: Option<&'a str>,
 }
 
 // One line of totals: of all, what is priced and what is not.
 #[derive(Clone, Copy)]
 struct TotalLine {
     all: Counted,
-    priced: u64,
+    priced: i64,
 }
 
 impl fmt::Display for TotalLine {
@@ -49,50 +41,62 @@ impl fmt::Display for TotalLine {
     }
 }
 
-// A value in words, or a dash where there is none.
-fn or_dash<T: fmt::Display + Drop>(heap: Global, value: Option<T>) -> Result<String, AllocError> {
-    match value {
-        Some(value) => format!(in heap; "{value}"),
-        None => String::from_str(heap, "-"),
-    }
+// What a line of a sheet comes to: the expiry of its month and the reserve days to it, where there are
+// any, its sides in price, and its price or why it has none.
+#[derive(Clone, Copy)]
+pub(crate) struct Outcome {
+    pub(crate) expiry: Option<u32>,
+    pub(crate) days: Option<u32>,
+    pub(crate) sides: Sides,
+    pub(crate) price: Result<u32, Cause>,
 }
 
 // A sheet, and the calendar on which it is priced.
 #[derive(Clone, Copy)]
-struct Report<'a> {
+pub(crate) struct Report<'a> {
     calendar: &'a OfficeCalendar,
-    view: SheetView<'a>,
+    pub(crate) view: SheetView<'a>,
 }
 
 impl Report<'_> {
-    // The last column: the price, or why there is none.
-    // Kept: a column is padded to its width, so its words are a string first.
-    fn price_words(&self, heap: Global, trade: TradeLine) -> Result<String, AllocError> {
-        match price_trade(self.calendar, self.view.day(), trade) {
-            Ok(priced) => {
-                let price = Points {
-                    hundredths: priced.price as u64,
-                };
-                let price = format!(in heap; "{price}")?;
-                format!(in heap; "{price:>10}")
-            }
-            Err(cause) => format!(in heap; "not priced: {cause}"),
+    // What a line comes to.
+    pub(crate) fn outcome(&self, trade: TradeLine) -> Outcome {
+        let session = self.view.day();
+        let expiry = expiry(self.calendar, trade.month);
+        Outcome {
+            expiry,
+            days: expiry
+                .filter(|day| *day > session)
+                .map(|day| count_reserve_days(self.calendar, session, day)),
+            sides: in_price(trade),
+            price: price_trade(self.calendar, session, trade).map(|priced| priced.price),
         }
     }
 
-    // The expiry and the reserve days to it, where there are any.
-    fn term_words(&self, heap: Global, month: u32) -> Result<(String, String), AllocError> {
+    // All lines, and those that are priced.
+    pub(crate) fn totals(&self) -> (Tally, Tally) {
+        let calendar = self.calendar;
         let session = self.view.day();
-        let expiry = expiry(self.calendar, month);
-        let days = expiry
-            .filter(|day| *day > session)
-            .map(|day| count_reserve_days(self.calendar, session, day));
-        let date = expiry.map(|number| Day { number });
-        Ok((or_dash(heap, date)?, or_dash(heap, days)?))
+        let all = add_up(&self.view, &AnyTrade);
+        (all, add_up(&self.view, &OnCalendar { calendar, session }))
     }
 
-    // A line of the sheet.
-    fn row(&self, heap: Global, line: usize, trade: TradeLine) -> Result<String, AllocError> {
+    // The months that the sheet names, in order, each once.
+    pub(crate) fn months(&self, heap: Global) -> Result<Vec<u32>, AllocError> {
+        let mut months: Vec<u32> = self.view.trades().map(|trade| trade.month).collect(heap)?;
+        months.sort_unstable();
+        months.dedup();
+        Ok(months)
+    }
+
+    // The lines of a month.
+    pub(crate) fn month(&self, month: u32) -> Tally {
+        add_up(&self.view, &InMonth { month })
+    }
+
+    // Adds a line of the sheet.
+    fn push_row(&self, text: &mut String, line: usize, trade: TradeLine) -> Result<(), AllocError> {
+        let outcome = self.outcome(trade);
         let TradeLine {
             buyer,
             seller,
@@ -100,97 +104,86 @@ impl Report<'_> {
             rate,
             quantity,
         } = trade;
-        let Sides {
-            buyer: buys,
-            seller: sells,
-        } = in_price(trade);
-        let sides = format!(in heap;
-            "{line:>4}  {buyer:>10}  {seller:>11}  {buys:>8}  {sells:>9}"
-        )?;
-        let code = format!(in heap; "{}", Code { month })?;
-        let (date, days) = self.term_words(heap, month)?;
-        let rate = Fixed {
-            value: rate,
-            places: RATE_PLACES,
-        };
-        let rate = format!(in heap; "{rate}")?;
-        let terms = format!(in heap; "{code:<6}  {date:<10}  {days:>4}  {rate:>8}  {quantity:>9}")?;
-        let price = self.price_words(heap, trade)?;
-        format!(in heap; "{sides}  {terms}  {price}\n")
-    }
-
-    // The lines of the sheet.
-    fn rows(&self, heap: Global) -> Result<String, AllocError> {
-        let mut text = String::new(heap);
-        for (line, trade) in self.view.trades().enumerate() {
-            text.push_str(self.row(heap, line, trade)?.as_str())?;
+        let buys = outcome.sides.buyer;
+        let sells = outcome.sides.seller;
+        write!(text, "{line:>4}  {buyer:>10}  {seller:>11}  {buys:>8}  {sells:>9}")?;
+        write!(text, "  {}", Code { month })?;
+        match outcome.expiry {
+            Some(day) => write!(text, "  {}", date(day))?,
+            None => text.push_str("  -         ")?,
         }
-        Ok(text)
+        match outcome.days {
+            Some(days) => write!(text, "  {days:>4}")?,
+            None => text.push_str("     -")?,
+        }
+        write!(text, "  {:>8}  {quantity:>9}", Fixed::dealt_rate(rate))?;
+        match outcome.price {
+            Ok(price) => {
+                let price = Points {
+                    hundredths: price as u64,
+                };
+                write!(text, "  {price:>10}\n")
+            }
+            Err(cause) => write!(text, "  not priced: {cause}\n"),
+        }
     }
 
-    // The two lines of totals.
-    fn totals(&self, heap: Global) -> Result<String, AllocError> {
-        let all = add_up(&self.view, &AnyTrade);
-        let calendar = self.calendar;
-        let session = self.view.day();
-        let priced = add_up(&self.view, &OnCalendar { calendar, session });
+    // Adds the two lines of totals.
+    fn push_totals(&self, text: &mut String) -> Result<(), AllocError> {
+        let (all, priced) = self.totals();
         let of_lines = TotalLine {
-            all: lines(all.lines),
-            priced: priced.lines as u64,
+            all: Counted::lines(i64::from(all.lines)),
+            priced: i64::from(priced.lines),
         };
         let of_contracts = TotalLine {
-            all: contracts(all.contracts),
-            priced: priced.contracts,
+            all: Counted::contracts(all.contracts as i64),
+            priced: priced.contracts as i64,
         };
-        format!(in heap; "{of_lines}{of_contracts}")
-    }
-
-    // The months that the sheet names, in order, each once.
-    fn months(&self, heap: Global) -> Result<Vec<u32>, AllocError> {
-        let mut months: Vec<u32> = self.view.trades().map(|trade| trade.month).collect(heap)?;
-        months.sort_unstable();
-        months.dedup();
-        Ok(months)
-    }
-
-    // The line of a month.
-    fn month_line(&self, heap: Global, month: u32) -> Result<String, AllocError> {
-        let tally = add_up(&self.view, &InMonth { month });
-        let code = Code { month };
-        let lines = lines(tally.lines);
-        let contracts = contracts(tally.contracts);
-        format!(in heap; "{code}: {lines}, {contracts}\n")
+        write!(text, "{of_lines}{of_contracts}")
     }
 
     // The whole print.
     fn print(&self, heap: Global) -> Result<String, AllocError> {
-        let day = Day {
-            number: self.view.day(),
-        };
-        let mut text = format!(in heap; "session {day}\n{HEADING}")?;
-        text.push_str(self.rows(heap)?.as_str())?;
-        text.push_str(self.totals(heap)?.as_str())?;
+        let mut text = format!(in heap; "session {}\n{HEADING}", date(self.view.day()))?;
+        for (line, trade) in self.view.trades().enumerate() {
+            self.push_row(&mut text, line, trade)?;
+        }
+        self.push_totals(&mut text)?;
         for month in self.months(heap)? {
-            text.push_str(self.month_line(heap, month)?.as_str())?;
+            let tally = self.month(month);
+            let lines = Counted::lines(i64::from(tally.lines));
+            let contracts = Counted::contracts(tally.contracts as i64);
+            write!(text, "{}: {lines}, {contracts}\n", Code { month })?;
         }
         Ok(text)
     }
 }
 
 // Prices every line of a sheet on the office's calendar.
-pub(crate) fn prices(rt: &HostRuntime, office: &str, file: &str) -> Result<String, Failure> {
+pub(crate) fn prices(
+    rt: &HostRuntime,
+    office: &str,
+    file: &str,
+    options: PriceOptions<'_>,
+) -> Result<String, Failure> {
     let heap = rt.alloc();
     let office = read_office(rt, office)?;
-    let bytes = in_words(heap, read_from(file, fs::read(rt, file)))?;
+    let bytes = in_words(heap, read_bytes(rt, file, file))?;
     let source = Source { heap, file };
     let view = view(&source, bytes.as_slice())?;
-    let number = view.day();
-    if !office.calendar.kind(number).is_session() {
-        return source.about(Err(Complaint::NoSession(Day { number })));
+    let session = view.day();
+    if !office.calendar.kind(session).is_session() {
+        return source.about(Err(Complaint::NoSession(date(session))));
     }
     let report = Report {
         calendar: &office.calendar,
         view,
     };
+    if let Some(name) = options.csv {
+        write_price_tables(heap, &TableFolder { rt, name }, &report)?;
+    }
+    if options.json {
+        return Ok(json_print(heap, &report)?);
+    }
     Ok(report.print(heap)?)
 }

@@ -1,12 +1,18 @@
 // Sheets as text and back.
-use crate::failure::{Complaint, Failure, Source, in_words, or_no_such};
-use crate::figures::{Counted, Fixed, RATE_PLACES, day_of, decimal, number};
-use crate::texts::{Line, lines_of, read_from};
+use crate::failure::{Complaint, Failure, Source, in_words};
+use crate::figures::{Code, Counted, Fixed, date};
+use crate::files::{read_bytes, read_text, write_whole};
+use crate::journal::trade_line;
+use crate::texts::{Line, lines_of};
+use crate::words::{day, sheet_day};
 use amounts::MAX_TRADES;
-use dates::Day;
-use sheet::{ContractCode, SheetFault, SheetView, TradeLine, read, write};
-use std::alloc::{AllocError, Global};
-use std::{fmt, fs};
+use sheet::{SheetFault, SheetView, TradeLine, read, write};
+use std::alloc::Global;
+use std::fmt;
+
+const SESSION_FORM: &str = "session DATE, or session day N";
+
+const NO_SESSION: &str = "no session line; expected first: session DATE, or session day N";
 
 // The count that a sheet's first bytes say.
 // Kept: an Option would be taken apart where the count is shown, and there fewer bytes have been told first.
@@ -52,21 +58,6 @@ pub(crate) fn view<'a>(source: &Source<'_>, bytes: &'a [u8]) -> Result<SheetView
     source.about(read(bytes).map_err(|fault| Complaint::NoSheet(FaultWords { bytes, fault })))
 }
 
-// The code of a month, shown as nothing where it has none.
-#[derive(Clone, Copy)]
-pub(crate) struct Code {
-    pub(crate) month: u32,
-}
-
-impl fmt::Display for Code {
-    fn fmt<W: fmt::Write>(&self, f: &mut fmt::Formatter<W>) -> fmt::Result {
-        match ContractCode::new(self.month) {
-            Some(code) => write!(f, "{code}"),
-            None => Ok(()),
-        }
-    }
-}
-
 // A trade as a line of text.
 #[derive(Clone, Copy)]
 struct LineText {
@@ -83,10 +74,7 @@ impl fmt::Display for LineText {
             quantity,
         } = self.trade;
         let code = Code { month };
-        let rate = Fixed {
-            value: rate,
-            places: RATE_PLACES,
-        };
+        let rate = Fixed::dealt_rate(rate);
         writeln!(f, "trade {buyer} {seller} {code} {rate} {quantity}")
     }
 }
@@ -94,10 +82,9 @@ impl fmt::Display for LineText {
 // A sheet as text.
 pub(crate) fn show(rt: &HostRuntime, file: &str) -> Result<String, Failure> {
     let heap = rt.alloc();
-    let bytes = in_words(heap, read_from(file, fs::read(rt, file)))?;
+    let bytes = in_words(heap, read_bytes(rt, file, file))?;
     let view = view(&Source { heap, file }, bytes.as_slice())?;
-    let day = Day { number: view.day() };
-    let mut text = format!(in heap; "session {day}\n")?;
+    let mut text = format!(in heap; "session {}\n", date(view.day()))?;
     for trade in view.trades() {
         write!(text, "{}", LineText { trade })?;
     }
@@ -106,49 +93,31 @@ pub(crate) fn show(rt: &HostRuntime, file: &str) -> Result<String, Failure> {
 
 // The day of a session line.
 fn session_day<'a>(words: &[&'a str]) -> Result<u16, Complaint<'a>> {
-    let expected = Complaint::Words("expected: session DATE, or session day N");
+    let expected = Complaint::Expected(SESSION_FORM);
     match words {
-        ["session", "day", day] => number(day)
-            .and_then(|n| u16::try_from(n).ok())
-            .ok_or(expected),
+        ["session", "day", number] => sheet_day(number).ok_or(expected),
         ["session", "day"] => Err(expected),
-        ["session", date] => Ok(day_of(date)? as u16),
+        ["session", date] => Ok(day(date)? as u16),
         ["session", ..] => Err(expected),
-        _ => Err(Complaint::Words("no session line")),
+        _ => Err(Complaint::Words(NO_SESSION)),
     }
-}
-
-fn account(word: &str) -> Option<u8> {
-    u8::try_from(number(word)?).ok()
-}
-
-// A trade line.
-fn trade<'a>(words: &[&'a str]) -> Result<TradeLine, Complaint<'a>> {
-    let ["trade", buyer, seller, code, rate, quantity] = words else {
-        return Err(Complaint::Words("expected: trade BUYER SELLER CODE RATE QUANTITY"));
-    };
-    let buyer = or_no_such("no account", buyer, account(buyer))?;
-    let seller = or_no_such("no account", seller, account(seller))?;
-    let contract = ContractCode::from_bytes(code.as_bytes());
-    let contract = or_no_such("no contract code", code, contract)?;
-    Ok(TradeLine {
-        buyer,
-        seller,
-        month: contract.month(),
-        rate: or_no_such("no rate", rate, decimal(rate, RATE_PLACES))?,
-        quantity: or_no_such("no quantity", quantity, number(quantity))?,
-    })
 }
 
 // A line after the session line, with so many trades before it.
 fn later_line<'a>(before: usize, words: &[&'a str]) -> Result<TradeLine, Complaint<'a>> {
     let trade = match words {
-        ["trade", ..] => trade(words)?,
+        ["trade", buyer, seller, code, rate, quantity] => {
+            trade_line([buyer, seller, code, rate, quantity])?
+        }
+        ["trade", ..] => {
+            return Err(Complaint::Expected("trade BUYER SELLER CODE RATE QUANTITY"));
+        }
         ["session", ..] => return Err(Complaint::Words("a second session")),
         [word, ..] => {
             return Err(Complaint::NoSuch {
                 what: "unknown word",
                 word,
+                expected: "trade BUYER SELLER CODE RATE QUANTITY",
             });
         }
         [] => return Err(Complaint::Words("no word")),
@@ -171,7 +140,11 @@ fn trades(source: &Source<'_>, lines: &[Line]) -> Result<Vec<TradeLine>, Failure
 }
 
 // The bytes of the sheet of these trades.
-fn sheet_bytes(heap: Global, day: u16, trades: &[TradeLine]) -> Result<Vec<u8>, Complaint<'static>> {
+fn sheet_bytes(
+    heap: Global,
+    day: u16,
+    trades: &[TradeLine],
+) -> Result<Vec<u8>, Complaint<'static>> {
     let mut bytes = vec![in heap; 0u8; 4 + 16 * trades.len()]?;
     write(day, trades, bytes.as_mut_slice()).map_err(|_| Complaint::Words("no sheet"))?;
     Ok(bytes)
@@ -181,7 +154,7 @@ fn sheet_bytes(heap: Global, day: u16, trades: &[TradeLine]) -> Result<Vec<u8>, 
 fn sheet_of(source: &Source<'_>, text: &str) -> Result<(usize, Vec<u8>), Failure> {
     let lines = lines_of(source.heap, text)?;
     let Some((first, rest)) = lines.as_slice().split_first() else {
-        return source.at_line(1, Err(Complaint::Words("no session line")));
+        return source.at_line(1, Err(Complaint::Words(NO_SESSION)));
     };
     let day = source.at_line(first.number, session_day(first.words.as_slice()))?;
     let trades = trades(source, rest)?;
@@ -192,12 +165,11 @@ fn sheet_of(source: &Source<'_>, text: &str) -> Result<(usize, Vec<u8>), Failure
 // Writes the sheet that a text describes.
 pub(crate) fn make(rt: &HostRuntime, text: &str, file: &str) -> Result<String, Failure> {
     let heap = rt.alloc();
-    let lines = in_words(heap, read_from(text, fs::read_to_string(rt, text)))?;
+    let lines = in_words(heap, read_text(rt, text))?;
     let (count, bytes) = sheet_of(&Source { heap, file: text }, lines.as_str())?;
-    let written = fs::write(rt, file, bytes.as_slice());
-    in_words(heap, written.map_err(|_| Complaint::CannotWrite(file)))?;
+    in_words(heap, write_whole(rt, file, bytes.as_slice()))?;
     let trades = Counted {
-        count: count as u64,
+        count: count as i64,
         one: "trade",
         many: "trades",
     };

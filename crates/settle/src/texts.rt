@@ -1,18 +1,11 @@
 // Text files as numbered lines of words.
-use crate::failure::Complaint;
 use std::alloc::{AllocError, Global};
-use std::io;
 
 // A line that is not passed over: its number, from 1, and its words.
 #[derive(Drop)]
 pub(crate) struct Line<'a> {
     pub(crate) number: usize,
     pub(crate) words: Vec<&'a str>,
-}
-
-// What was read from a file, as text or as bytes.
-pub(crate) fn read_from<T: Drop>(file: &str, read: io::Result<T>) -> Result<T, Complaint<'_>> {
-    read.map_err(|_| Complaint::CannotRead(file))
 }
 
 // The lines with words, but for notes, which begin with `#`.

@@ -11,7 +11,7 @@ ghost use Rattle.refusal.specs.Refusals.{reason_of};
 ghost use Rattle.rows.specs.Rows.{first_row, reason_by};
 ghost use Rattle.book.specs.Causes.{day_in};
 ghost use Rattle.book.specs.Changes.{priced, after_close};
-ghost use Rattle.book.specs.Closes.{lacks_mark, session_rows_in, room_row_in, prices_before, row_in, charged, charged_by, has_expired, expired_by};
+ghost use Rattle.book.specs.Closes.{lacks_mark, session_rows_in, room_row_in, prices_before, row_in, with_more_due, accounts_after, has_expired, positions_after};
 
 use super::accounts::together;
 use super::months::MAX_PRICE;
@@ -73,8 +73,8 @@ fn row_total(cells: &[i64]) -> i64
 }
 
 // A row with an amount more due.
-fn charged(row: AccountRow, amount: i64) -> AccountRow
-    ensures { result ≡ charged amount row }
+fn with_more_due(row: AccountRow, amount: i64) -> AccountRow
+    ensures { result ≡ with_more_due amount row }
 {
     AccountRow {
         account: row.account,
@@ -95,11 +95,11 @@ fn row(cells: &[i64], account: usize, months: usize) -> &[i64]
 // Adds to what is due to each account the amounts of its row.
 fn charge_rows(rows: &mut ArrayVec<AccountRow, MAX_ACCOUNTS>, cells: &[i64], months: usize)
     requires { length rows.old.items * months ≤ length cells.now }
-    ensures { rows.new.items ≡ charged_by months cells.now rows.old.items }
+    ensures { rows.new.items ≡ accounts_after months cells.now rows.old.items }
 {
     for (account, entry) in rows.iter_mut().enumerate() {
         let amount = row_total(row(cells, account, months));
-        *entry = charged(*entry, amount);
+        *entry = with_more_due(*entry, amount);
     }
 }
 
@@ -111,7 +111,7 @@ fn has_expired(rows: &[MonthRow], month: usize, day: u32) -> bool
 }
 
 // What is left of a position.
-fn left(position: i32, expired: bool) -> i32
+fn position_after(position: i32, expired: bool) -> i32
     ensures { result ≡ cond expired (pos 0) position }
 {
     if expired { 0 } else { position }
@@ -119,10 +119,10 @@ fn left(position: i32, expired: bool) -> i32
 
 // Sets the positions of months that have expired to 0.
 fn expire_cells(cells: &mut [i32; CELLS], rows: &[MonthRow], day: u32)
-    ensures { cells.new ≡ expired_by day rows.now cells.old }
+    ensures { cells.new ≡ positions_after day rows.now cells.old }
 {
     for (at, cell) in cells.iter_mut().enumerate() {
-        *cell = left(*cell, has_expired(rows, at % MAX_MONTHS, day));
+        *cell = position_after(*cell, has_expired(rows, at % MAX_MONTHS, day));
     }
 }
 
@@ -181,7 +181,7 @@ impl Ledger {
         requires priced { length prices.now ≡ length self.old.months }
         requires adjustments_long { HasRoom (length self.old.accounts) (length self.old.months) (length adjustments.old) }
         requires day_trades_long { HasRoom (length self.old.accounts) (length self.old.months) (length day_trades.old) }
-        ensures adjusted { adjustments.new ≡ written_to (length self.old.accounts) (length self.old.months) (λ a m. int_wrap w64 (adjustment_in self.old.session.trades prices.now self.old.positions a m)) adjustments.old }
+        ensures adjusted { adjustments.new ≡ written_to (length self.old.accounts) (length self.old.months) (adjustment_in self.old.session.trades prices.now self.old.positions) adjustments.old }
         ensures day_traded { day_trades.new ≡ written_to (length self.old.accounts) (length self.old.months) (λ a m. day_trade a m self.old.session.trades) day_trades.old }
         ensures same_tables { self.new ≡ self.old }
     {
@@ -203,7 +203,7 @@ impl Ledger {
         ensures slip { result ≡ record { number = self.old.number; day = day_in self.old } }
         ensures adjusted { adjustments.new ≡ written_to (length self.old.accounts) (length self.old.months) (adjustment_in self.old.session.trades prices.now self.old.positions) adjustments.old }
         ensures day_traded { day_trades.new ≡ written_to (length self.old.accounts) (length self.old.months) (λ a m. day_trade a m self.old.session.trades) day_trades.old }
-        ensures tables { self.new ≡ after_close (day_in self.old) (charged_by (length self.old.months) adjustments.new self.old.accounts) (expired_by (day_in self.old) self.old.months self.old.positions) self.old }
+        ensures tables { self.new ≡ after_close (day_in self.old) (accounts_after (length self.old.months) adjustments.new self.old.accounts) (positions_after (day_in self.old) self.old.months self.old.positions) self.old }
     {
         let day = self.session_day();
         self.write(prices, adjustments, day_trades);

@@ -1,4 +1,4 @@
-use Rattle.std.proofs.Common.{◌∷◌, length, None, Some, refl, ap, arith}
+use Rattle.std.proofs.Common.{◌∷◌, length, None, Some, ap, arith}
 use Rattle.refusal.specs.Refusals.{reason_of}
 use Rattle.model.specs.History.{Traded}
 use Rattle.model.specs.Imports.{line_trade}
@@ -12,7 +12,7 @@ returns-in-Err-clause-came g c w h k =
       next-line _ w h c.args.ticket.now _ _ _ _ _ r (Some (reason_of c.in-Err.refusal)) (c.in-Err.ensures.answers w r.history r.kept),
       c.in-Err.ensures.refused,
     )
-    (record { taken = refl; stop = refl; kept = r.kept })
+    (record { taken = c.refused.ensures.0; stop = c.refused.ensures.1; kept = r.kept })
 
 pub loop-line-preserved : goal.loop-line-preserved
 loop-line-preserved g c = record {
