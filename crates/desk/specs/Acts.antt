@@ -1,5 +1,5 @@
 -- What a desk does with calls.
-use Rattle.std.specs.Prelude.{◌≡◌, List}
+use Rattle.std.specs.Prelude.{List}
 use Rattle.model.specs.History.{History}
 use Rattle.model.specs.World.{World}
 use Rattle.book.specs.declared.position_book.Book.{Book}
@@ -7,7 +7,7 @@ use Rattle.desk.specs.declared.calls.Call.{Call}
 use Rattle.desk.specs.declared.calls.Reply.{Reply}
 use Rattle.desk.specs.declared.desk.Desk.{Desk}
 use Rattle.desk.specs.Runs.{Takes, Replies, Runs, after_call, after_calls}
-use Rattle.desk.specs.Standing.{Standing, at_start, standing, Stands}
+use Rattle.desk.specs.Standing.{at_start, standing, Stands}
 
 -- a call was answered by the rules, and the desk stands after it as they say
 pub record Acted {C S : Type 0} (has : Takes) (keeps : World → History → Book C S → Type 0) (w : World) (h : History) (call : Call) (reply : Reply) (old new : Desk C S) : Type 0 where

@@ -8,7 +8,7 @@ use Rattle.refusal.specs.Refusals.{reason_of}
 use Rattle.model.specs.Answers.{next_account, next_month, next_ticket, next_slip}
 use Rattle.model.specs.Balance.{Balanced}
 use Rattle.model.specs.Closes.{amounts_at_close, cells_of}
-use Rattle.model.specs.History.{History, Amounts, Entered, Listed, Published, Arbitrated, Opened, Traded, Marked, Closed, Paid}
+use Rattle.model.specs.History.{History, Entered, Listed, Published, Arbitrated, Opened, Traded, Marked, Closed, Paid}
 use Rattle.model.specs.Imports.{Import, import_of, line_rows, line_trade}
 use Rattle.model.specs.Lawful.{Allowed, Lawful}
 use Rattle.model.specs.Observed.{accounts_of, months_of}

@@ -1,5 +1,5 @@
 -- What the topmost source of a book takes.
-use Rattle.std.specs.Prelude.{◌≡◌, Bool, true, is_some, Some, Option, List, Result, IfNone, IfSome}
+use Rattle.std.specs.Prelude.{◌≡◌, Bool, is_some, Option, List, Result, IfNone, IfSome}
 use Rattle.refusal.specs.declared.Refusal.{Refusal}
 use Rattle.refusal.specs.Refusals.{reason_of}
 use Rattle.rows.specs.Rows.{Row}
