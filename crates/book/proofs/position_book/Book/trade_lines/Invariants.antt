@@ -1,4 +1,4 @@
-use Rattle.std.proofs.Common.{◌≡◌, ℕ, ◌+◌, ◌≤◌, length}
+use Rattle.std.proofs.Common.{◌≡◌, ◌+◌, ◌≤◌, length}
 use Rattle.model.specs.History.{History}
 use Rattle.model.specs.World.{World}
 use Rattle.sheet.specs.Lines.{trades_left}
