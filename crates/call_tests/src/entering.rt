@@ -41,7 +41,8 @@ fn months(rt: HostRuntime) -> Result<(), Fail> {
         (2, Err(Refusal::AlreadyThere)),
         // Already there, and on its expiry.
         (1, Err(Refusal::AlreadyThere)),
-        // No session in the month, before the calendar's first, behind its last, and past all months.
+        // No session in the month, before the calendar's first, behind its last, and past all
+        // months.
         (0, Err(Refusal::NoExpiry)),
         (85, Err(Refusal::NoExpiry)),
         (1_200, Err(Refusal::NoExpiry)),

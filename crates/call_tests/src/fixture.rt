@@ -24,8 +24,8 @@ fn mark_of(day: u32) -> u8 {
     if day < FIRST { 0 } else { 2 }
 }
 
-// A calendar that has a session on each day from the first of February 2000 to the third of January
-// 2007.
+// A calendar that has a session on each day from the first of February 2000 to the third of
+// January 2007.
 pub(crate) fn daily(heap: Global) -> Result<MarkedCalendar, AllocError> {
     let marks = (0..2_560).map(mark_of).collect(heap)?;
     Ok(MarkedCalendar::new(marks))
@@ -62,8 +62,8 @@ pub(crate) fn ticket_of(heap: Global, number: u32, start: u32) -> Result<Ticket,
     Ok(book.open()?)
 }
 
-// A book in its first session, with two accounts, the month that expires in it, and the next, which
-// expires 29 reserve days later.
+// A book in its first session, with two accounts, the month that expires in it, and the next,
+// which expires 29 reserve days later.
 pub(crate) fn opened(heap: Global, number: u32) -> Result<(TableBook, Ticket), Fail> {
     let mut book = new_book(heap, number, FIRST - 1)?;
     book.enter(account(1))?;
@@ -87,8 +87,8 @@ pub(crate) fn close<C: Calendar, S: RateSource>(
     }
 }
 
-// Such a book after its first session, in which account 0 bought ten contracts in rate from account 1
-// at 98,909.17 points, and the month was settled at 99,000.00.
+// Such a book after its first session, in which account 0 bought ten contracts in rate from
+// account 1 at 98,909.17 points, and the month was settled at 99,000.00.
 pub(crate) fn closed(heap: Global, number: u32) -> Result<(TableBook, Slip), Fail> {
     let (mut book, ticket) = opened(heap, number)?;
     book.trade(&ticket, order(0, 1, 1, 10_000, 10))?;

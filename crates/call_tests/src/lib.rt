@@ -1,5 +1,5 @@
-// Tests of the calls of a book: in tables, where of several causes the upper row is told, and in runs at
-// a desk. There is nothing else in this crate.
+// Tests of the calls of a book: in tables, where of several causes the upper row is told, and in
+// runs at a desk. There is nothing else in this crate.
 #![tactic(auto)]
 
 #[cfg(test)]

@@ -1,5 +1,5 @@
-// Rates that are not taken: rows 21 to 25. A day outside the horizon has no rate, so row 21 never meets
-// row 22.
+// Rates that are not taken: rows 21 to 25. A day outside the horizon has no rate, so row 21 never
+// meets row 22.
 use crate::fixture::{NUMBER, daily};
 use book::Book;
 use calendar::marked::MarkedCalendar;
@@ -16,7 +16,8 @@ type LayerBook = Book<MarkedCalendar, ArbitrationLayer<TableSource>>;
 // A rate over the highest.
 const TOO_HIGH: u32 = 100_000_000;
 
-// A book on the days 100 to 119, with a published rate on day 100 and an arbitrated one on day 101.
+// A book on the days 100 to 119, with a published rate on day 100 and an arbitrated one on day
+// 101.
 fn layered(heap: Global) -> Result<LayerBook, Fail> {
     let source = ArbitrationLayer::new(TableSource::empty(heap, 100, 20)?);
     let mut book = Book::new(daily(heap)?, source, NUMBER, 100);

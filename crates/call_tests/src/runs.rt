@@ -1,5 +1,5 @@
-// Runs of calls at a desk: the month of ten contracts over each kind of source, and what a desk answers
-// with no ticket, with no slip, and after a slip that was written off.
+// Runs of calls at a desk: the month of ten contracts over each kind of source, and what a desk
+// answers with no ticket, with no slip, and after a slip that was written off.
 use crate::fixture::account;
 use book::{Book, ImportOutcome};
 use calendar::rule::{Exception, RuleCalendar};
@@ -70,8 +70,8 @@ fn first_other(replies: &[Reply], rows: &[Row<'_>]) -> Option<(usize, Answer)> {
     None
 }
 
-// Makes the calls to a book of number 7 from 30 December 2026 on, the first of January being closed, and
-// compares what is said. The book's source is answered too.
+// Makes the calls to a book of number 7 from 30 December 2026 on, the first of January being
+// closed, and compares what is said. The book's source is answered too.
 fn compare<S: Topmost<RuleCalendar> + Drop>(
     heap: Global,
     source: S,

@@ -76,8 +76,8 @@ struct CloseOutcome {
     same: bool,
 }
 
-// The second session closed into arrays of these lengths, each place of which is 77. The causes are those
-// of rows 1, 13, 14 and 15 that hold.
+// The second session closed into arrays of these lengths, each place of which is 77. The causes
+// are those of rows 1, 13, 14 and 15 that hold.
 fn second_close(
     heap: Global,
     causes: [u32; 2],
@@ -160,8 +160,8 @@ fn slip_of(heap: Global, number: u32, start: u32) -> Result<Slip, Fail> {
     Ok(close(&mut book, ticket, &mut [], &mut [])?)
 }
 
-// A payment in a book whose first session is closed and its slip lost, by a slip of this number and day:
-// why it was refused, and what account 1 was then paid and is due.
+// A payment in a book whose first session is closed and its slip lost, by a slip of this number
+// and day: why it was refused, and what account 1 was then paid and is due.
 fn payment(
     heap: Global,
     number: u32,

@@ -1,5 +1,5 @@
-// Sheets that are not imported, in whole or from a line on, and sheets that are not written: rows 16 and
-// 26, and the rows of a line's trade.
+// Sheets that are not imported, in whole or from a line on, and sheets that are not written: rows
+// 16 and 26, and the rows of a line's trade.
 use crate::fixture::{FIRST, NUMBER, OTHER, opened, standing, ticket_of};
 use book::{ImportOutcome, ImportStop};
 use model::Layer;
@@ -95,7 +95,7 @@ fn bad_sheets(rt: HostRuntime) -> Result<(), Fail> {
 fn bad_lines(rt: HostRuntime) -> Result<(), Fail> {
     let (mut book, ticket) = opened(rt.alloc(), NUMBER)?;
     let other = ticket_of(rt.alloc(), OTHER, FIRST)?;
-    // What account 1 holds after each is that of the first lines that were taken.
+    // Last in each row: what account 1 then holds, by the lines that were taken.
     for (held, lines, expected, position) in [
         (&other, [TAKEN, TAKEN], bad_line(0, Refusal::NotCurrent), 0),
         (
@@ -137,8 +137,8 @@ fn bad_lines(rt: HostRuntime) -> Result<(), Fail> {
     Ok(())
 }
 
-// The refusal of a sheet of so many times this line, written into an array of this length, and whether
-// the array is then as before.
+// The refusal of a sheet of so many times this line, written into an array of this length, and
+// whether the array is then as before.
 fn refused(
     heap: Global,
     line: TradeLine,

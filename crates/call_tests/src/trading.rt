@@ -1,4 +1,5 @@
-// Trades, marks and questions that are refused: rows 1 to 10. And the edges of ticks and of reserve days.
+// Trades, marks and questions that are refused: rows 1 to 10. And the edges of ticks and of
+// reserve days.
 use crate::fixture::{
     FIRST, NUMBER, OTHER, TableBook, account, close, opened, order, standing, ticket_of,
 };
@@ -11,9 +12,10 @@ use refusal::Refusal;
 use std::alloc::Global;
 use std::test::Fail;
 
-// A book in its first session, with four accounts. Of its months 0 expires in the session, 1 the month
-// after, 2 is 2,526 reserve days away and 3 four months. There are 255 trades, all in month 1: account 0
-// bought 500,000 contracts in rate from account 1, and account 2 bought 230 from account 3.
+// A book in its first session, with four accounts. Of its months 0 expires in the session, 1 the
+// month after, 2 is 2,526 reserve days away and 3 four months. There are 255 trades, all in month
+// 1: account 0 bought 500,000 contracts in rate from account 1, and account 2 bought 230 from
+// account 3.
 fn busy(heap: Global) -> Result<(TableBook, Ticket), Fail> {
     let (mut book, ticket) = opened(heap, NUMBER)?;
     book.enter(account(3))?;
@@ -128,7 +130,8 @@ fn marks(rt: HostRuntime) -> Result<(), Fail> {
             "month {month}, price {price}"
         );
     }
-    // None of them has marked the month, so that the session is not closed and its ticket comes back.
+    // None of them has marked the month, so that the session is not closed and its ticket comes
+    // back.
     let (refusal, ticket) = match book.close(ticket, &mut [0; 4], &mut [0; 4]) {
         Err(CloseRefused { refusal, ticket }) => (refusal, ticket),
         Ok(slip) => {
@@ -170,8 +173,8 @@ fn ticks(rt: HostRuntime) -> Result<(), Fail> {
     Ok(())
 }
 
-// The mark of a day in a calendar with sessions on day 0 and on the expiries of months 82 and 83, which
-// are 2,520 and 2,521 reserve days away.
+// The mark of a day in a calendar with sessions on day 0 and on the expiries of months 82 and 83,
+// which are 2,520 and 2,521 reserve days away.
 fn long_mark(day: u32) -> u8 {
     match day {
         0 | 2_520 | 2_526 => 2,
