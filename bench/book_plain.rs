@@ -1,4 +1,4 @@
-// Sessions of full books in plain Rust, as the proved crates `book` and `desk` have them.
+// Sessions of full books in plain Rust, as the proved crate `book` has them.
 use crate::close_plain::{
     array_sum, place, MonthPrices, Session, Trade, CELLS, MAX_ACCOUNTS, MAX_CONTRACTS, MAX_MONTHS,
     MAX_POSITION, MAX_TRADES,
@@ -416,7 +416,7 @@ impl Book {
     }
 }
 
-// ---- The desk, and what is measured.
+// ---- What is measured.
 
 const START: u32 = 9_860;
 
@@ -489,7 +489,7 @@ impl BookFigures {
         self.prices += price as u64;
     }
 
-    fn add<T>(&mut self, answer: Result<T, Refusal>) -> Option<T> {
+    fn taken<T>(&mut self, answer: Result<T, Refusal>) -> Option<T> {
         self.refused += answer.is_err() as u64;
         answer.ok()
     }
@@ -566,6 +566,8 @@ impl Plan {
 struct Load<'a> {
     book: Book,
     slip: Option<Slip>,
+    adjustments: [i64; CELLS],
+    day_trades: [i64; CELLS],
     figures: &'a mut BookFigures,
 }
 
@@ -577,11 +579,11 @@ impl Load<'_> {
                 participant: 1,
                 member: 1,
             });
-            self.figures.add(entered);
+            self.figures.taken(entered);
         }
         for month in plan.months {
             let listed = self.book.list(month);
-            self.figures.add(listed);
+            self.figures.taken(listed);
         }
     }
 
@@ -590,7 +592,7 @@ impl Load<'_> {
             Entry::ByLine => {
                 for line in lines {
                     let traded = self.book.trade_line(ticket, *line);
-                    if let Some(price) = self.figures.add(traded) {
+                    if let Some(price) = self.figures.taken(traded) {
                         self.figures.add_trade(price);
                     }
                 }
@@ -608,31 +610,30 @@ impl Load<'_> {
     }
 
     fn close(&mut self, ticket: &Ticket) {
-        let cells = self.book.accounts.len() * self.book.months.len();
-        let (mut adjustments, mut day_trades) = (vec![0; cells], vec![0; cells]);
-        let closed = self.book.close(ticket, &mut adjustments, &mut day_trades);
-        self.slip = self.figures.add(closed);
+        let closed = self
+            .book
+            .close(ticket, &mut self.adjustments, &mut self.day_trades);
+        self.slip = self.figures.taken(closed);
         if self.slip.is_some() {
-            let sum = array_sum(&adjustments, &day_trades);
+            let sum = array_sum(&self.adjustments, &self.day_trades);
             self.figures.amounts = self.figures.amounts.wrapping_add(sum);
         }
     }
 
     fn session(&mut self, plan: Plan, lines: &[TradeLine]) {
         let opened = self.book.open();
-        let Some(ticket) = self.figures.add(opened) else {
+        let Some(ticket) = self.figures.taken(opened) else {
             return;
         };
         if let Some(slip) = self.slip.take() {
             let paid = self.book.pay(&slip);
-            self.figures.add(paid);
+            self.figures.taken(paid);
         }
         self.bring(plan.entry, &ticket, lines);
-        for month in plan.months {
-            let price = 5_000_000 + month % 16 * 1_000;
-            let index = self.book.place(month);
-            let marked = self.book.mark(&ticket, index, price);
-            self.figures.add(marked);
+        for (month, number) in plan.months.iter().enumerate() {
+            let price = 5_000_000 + number % 16 * 1_000;
+            let marked = self.book.mark(&ticket, month as u8, price);
+            self.figures.taken(marked);
         }
         self.close(&ticket);
     }
@@ -645,6 +646,8 @@ pub(crate) fn books(plan: Plan, count: u32) -> BookFigures {
         let mut load = Load {
             book: Book::new(calendar(), table(&mut Numbers::new()), 1, START),
             slip: None,
+            adjustments: [0; CELLS],
+            day_trades: [0; CELLS],
             figures: &mut figures,
         };
         load.fill(plan);

@@ -1,18 +1,19 @@
-// Sessions of full books on a calendar with 1,500 exceptions and rates of all days, each book at a desk.
+// Sessions of full books on a calendar with 1,500 exceptions, with rates of all days.
 ghost use Rattle.std.specs.Prelude.{◌<◌};
 
 use crate::closes::array_sum;
 use crate::gaps::table;
 use crate::numbers::Numbers;
 use crate::sheets::sheet_bytes;
-use amounts::MAX_TRADES;
+use amounts::{CELLS, MAX_TRADES};
+use book::{Book, PayRefused, Slip, Ticket};
 use calendar::kind::DayKind;
 use calendar::rule::{Exception, RuleCalendar};
 use calendar::span::{count_reserve_days, expiry, next_session};
-use desk::{Call, Desk, Reply};
 use interest::trade_price;
 use model::{Account, Order};
 use rates::table::TableSource;
+use refusal::Refusal;
 use sheet::TradeLine;
 use std::alloc::{AllocError, Global};
 use std::fmt;
@@ -98,20 +99,14 @@ impl BookFigures {
         self.prices = self.prices.wrapping_add(price as u64);
     }
 
-    // Adds what a call answered.
-    fn add(&mut self, reply: Reply) {
-        match reply {
-            Reply::Traded(price) => self.add_trade(price),
-            Reply::Imported(outcome) => {
-                self.trades = self.trades.wrapping_add(outcome.taken as u64);
-                self.refused = self.refused.wrapping_add(outcome.stop.is_some() as u64);
+    // What a call answered, or nothing where it was refused.
+    fn taken<T>(&mut self, answer: Result<T, Refusal>) -> Option<T> {
+        match answer {
+            Ok(value) => Some(value),
+            Err(_) => {
+                self.refused = self.refused.wrapping_add(1);
+                None
             }
-            Reply::Closed(closing) => {
-                let sum = array_sum(&closing.adjustments, &closing.day_trades);
-                self.amounts = self.amounts.wrapping_add(sum);
-            }
-            Reply::Refused(_) => self.refused = self.refused.wrapping_add(1),
-            _ => {}
         }
     }
 }
@@ -183,43 +178,67 @@ impl Plan {
     }
 }
 
-// A desk at work, and what its calls came to.
-#[derive(Drop)]
+// A book at work: the slip of its latest closed session, what a close wrote, and what its calls came
+// to.
 struct Load<'a> {
-    desk: &'a mut Desk<RuleCalendar, TableSource>,
+    book: Book<RuleCalendar, TableSource>,
+    slip: Option<Slip>,
+    adjustments: [i64; CELLS],
+    day_trades: [i64; CELLS],
     figures: &'a mut BookFigures,
 }
 
 impl Load<'_> {
-    // Makes a call.
-    fn call(&mut self, heap: Global, call: Call<'_>) -> Result<(), AllocError> {
-        let reply = self.desk.act(heap, call)?;
-        self.figures.add(reply);
-        Ok(())
-    }
-
     // Enters 32 accounts, and lists the months.
-    fn fill(&mut self, heap: Global, plan: Plan) -> Result<(), AllocError> {
+    fn fill(&mut self, plan: Plan) {
         for client in 0..32 {
-            let account = Account {
+            let entered = self.book.enter(Account {
                 client,
                 participant: 1,
                 member: 1,
-            };
-            self.call(heap, Call::Enter(account))?;
+            });
+            let _ = self.figures.taken(entered);
         }
         for month in plan.months {
-            self.call(heap, Call::List(month))?;
+            let listed = self.book.list(month);
+            let _ = self.figures.taken(listed);
         }
-        Ok(())
     }
 
-    // Opens a session, and answers its day, or 0 where there is none.
-    fn open(&mut self, heap: Global) -> Result<u16, AllocError> {
-        match self.desk.act(heap, Call::Open)? {
-            Reply::Opened(day) => Ok(u16::try_from(day).unwrap_or(0)),
-            _ => Ok(0),
+    // Takes a slip in place of one that it held, which is written off.
+    fn hold(&mut self, slip: Slip) {
+        if let Some(held) = self.slip.replace(slip) {
+            let _ = held.write_off();
         }
+    }
+
+    // Pays the session before.
+    fn pay(&mut self) {
+        let Some(held) = self.slip.take() else {
+            return;
+        };
+        if let Err(PayRefused { refusal, slip }) = self.book.pay(held) {
+            self.hold(slip);
+            let _ = self.figures.taken::<()>(Err(refusal));
+        }
+    }
+
+    // Trades lines one by one.
+    fn trade(&mut self, ticket: &Ticket, lines: &[TradeLine]) {
+        for line in lines {
+            let traded = self.book.trade_line(ticket, *line);
+            if let Some(price) = self.figures.taken(traded) {
+                self.figures.add_trade(price);
+            }
+        }
+    }
+
+    // Imports a sheet.
+    fn import(&mut self, ticket: &Ticket, sheet: &[u8]) {
+        let outcome = self.book.import(ticket, sheet);
+        let stops = outcome.stop.is_some() as u64;
+        self.figures.trades = self.figures.trades.wrapping_add(outcome.taken as u64);
+        self.figures.refused = self.figures.refused.wrapping_add(stops);
     }
 
     // Brings the lines of a session.
@@ -227,18 +246,15 @@ impl Load<'_> {
         &mut self,
         heap: Global,
         entry: Entry,
-        day: u16,
+        ticket: &Ticket,
         lines: &[TradeLine],
     ) -> Result<(), AllocError> {
+        let day = u16::try_from(ticket.day()).unwrap_or(0);
         match entry {
-            Entry::ByLine => {
-                for line in lines {
-                    self.call(heap, Call::Trade(*line))?;
-                }
-            }
+            Entry::ByLine => self.trade(ticket, lines),
             Entry::BySheet => {
                 let sheet = sheet_bytes(heap, day, lines)?;
-                self.call(heap, Call::Import(sheet.as_slice()))?;
+                self.import(ticket, sheet.as_slice());
             }
             Entry::Unread => {
                 let _ = sheet_bytes(heap, day, lines)?;
@@ -247,25 +263,61 @@ impl Load<'_> {
         Ok(())
     }
 
+    fn close(&mut self, ticket: Ticket) {
+        let closed = self
+            .book
+            .close(ticket, &mut self.adjustments, &mut self.day_trades);
+        match closed {
+            Ok(slip) => {
+                self.hold(slip);
+                let sum = array_sum(&self.adjustments, &self.day_trades);
+                self.figures.amounts = self.figures.amounts.wrapping_add(sum);
+            }
+            Err(refused) => {
+                let _ = self.figures.taken::<()>(Err(refused.refusal));
+            }
+        }
+    }
+
     // Opens a session, pays the one before, brings the lines, marks every month, and closes.
     fn session(&mut self, heap: Global, plan: Plan, lines: &[TradeLine]) -> Result<(), AllocError> {
-        let day = self.open(heap)?;
-        self.call(heap, Call::Pay)?;
-        self.bring(heap, plan.entry, day, lines)?;
-        for month in plan.months {
-            self.call(heap, Call::Mark(month, 5_000_000 + month % 16 * 1_000))?;
+        let opened = self.book.open();
+        let Some(ticket) = self.figures.taken(opened) else {
+            return Ok(());
+        };
+        self.pay();
+        self.bring(heap, plan.entry, &ticket, lines)?;
+        for (month, number) in plan.months.iter().enumerate() {
+            let price = 5_000_000 + number % 16 * 1_000;
+            let marked = self.book.mark(&ticket, month as u8, price);
+            let _ = self.figures.taken(marked);
         }
-        self.call(heap, Call::Close)
+        self.close(ticket);
+        Ok(())
     }
 
     // Makes all calls to a new book.
     fn run(&mut self, heap: Global, plan: Plan, numbers: &mut Numbers) -> Result<(), AllocError> {
-        self.fill(heap, plan)?;
+        self.fill(plan);
         for _ in 0..plan.sessions {
             let lines = plan.lines(heap, numbers)?;
             self.session(heap, plan, &lines)?;
         }
         Ok(())
+    }
+
+    // Writes off a slip that is left.
+    fn end(self) {
+        let Load {
+            book: _,
+            slip,
+            adjustments: _,
+            day_trades: _,
+            figures: _,
+        } = self;
+        if let Some(held) = slip {
+            let _ = held.write_off();
+        }
     }
 }
 
@@ -278,13 +330,15 @@ fn run_book(
 ) -> Result<(), AllocError> {
     let calendar = calendar(heap)?;
     let source = table(heap, &mut Numbers::new())?;
-    let mut desk = Desk::new(calendar, source, 1, START);
     let mut load = Load {
-        desk: &mut desk,
+        book: Book::new(calendar, source, 1, START),
+        slip: None,
+        adjustments: [0; CELLS],
+        day_trades: [0; CELLS],
         figures,
     };
     let outcome = load.run(heap, plan, numbers);
-    let _ = desk.end();
+    load.end();
     outcome
 }
 
