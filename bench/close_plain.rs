@@ -1,66 +1,34 @@
 // Closes of a session in plain Rust: from running sums with one pass for the day trades, as the
 // proved code has it, and beside it by a walk over the trades for each account and month.
-use std::env;
-use std::process::ExitCode;
+use crate::Numbers;
 
-const MAX_TRADES: usize = 256;
-const MAX_CONTRACTS: u32 = 20_000;
-const MAX_POSITION: u32 = 500_000;
-const MAX_ACCOUNTS: usize = 32;
-const MAX_MONTHS: usize = 16;
-const CELLS: usize = MAX_ACCOUNTS * MAX_MONTHS;
+pub(crate) const MAX_TRADES: usize = 256;
+pub(crate) const MAX_CONTRACTS: u32 = 20_000;
+pub(crate) const MAX_POSITION: u32 = 500_000;
+pub(crate) const MAX_ACCOUNTS: usize = 32;
+pub(crate) const MAX_MONTHS: usize = 16;
+pub(crate) const CELLS: usize = MAX_ACCOUNTS * MAX_MONTHS;
 
 #[derive(Clone, Copy, Default)]
-struct Trade {
-    buyer: u8,
-    seller: u8,
-    month: u8,
+pub(crate) struct Trade {
+    pub(crate) buyer: u8,
+    pub(crate) seller: u8,
+    pub(crate) month: u8,
     #[allow(dead_code)]
-    rate: u32,
-    contracts: u32,
-    price: u32,
+    pub(crate) rate: u32,
+    pub(crate) contracts: u32,
+    pub(crate) price: u32,
 }
 
 #[derive(Clone, Copy)]
-struct MonthPrices {
-    settlement: u32,
-    corrected: u32,
-}
-
-struct Numbers {
-    state: u32,
-}
-
-impl Numbers {
-    fn below(&mut self, bound: u32) -> u32 {
-        self.state = self
-            .state
-            .wrapping_mul(1_664_525)
-            .wrapping_add(1_013_904_223);
-        (self.state >> 8) % bound
-    }
-
-    // A trade of a full book, at a price near the full one.
-    fn trade(&mut self) -> Trade {
-        let buyer = self.below(32) as u8;
-        let seller = self.below(32) as u8;
-        let month = self.below(16) as u8;
-        let contracts = 1 + self.below(20_000);
-        let price = 9_000_000 + self.below(1_000_000);
-        Trade {
-            buyer,
-            seller,
-            month,
-            rate: 10_000,
-            contracts,
-            price,
-        }
-    }
+pub(crate) struct MonthPrices {
+    pub(crate) settlement: u32,
+    pub(crate) corrected: u32,
 }
 
 // ---- From running sums.
 
-fn place(account: u8, month: u8) -> usize {
+pub(crate) fn place(account: u8, month: u8) -> usize {
     MAX_MONTHS * account as usize + month as usize
 }
 
@@ -104,7 +72,7 @@ fn adjustment(bought: SideSum, sold: SideSum, position: i32, prices: MonthPrices
     traded + carried * (prices.settlement as i64 - prices.corrected as i64)
 }
 
-struct Session {
+pub(crate) struct Session {
     trades: [Trade; MAX_TRADES],
     count: usize,
     bought: [SideSum; CELLS],
@@ -114,7 +82,7 @@ struct Session {
 }
 
 impl Session {
-    fn new() -> Session {
+    pub(crate) fn new() -> Session {
         Session {
             trades: [Trade::default(); MAX_TRADES],
             count: 0,
@@ -125,13 +93,17 @@ impl Session {
         }
     }
 
-    fn clear(&mut self) {
+    pub(crate) fn clear(&mut self) {
         self.count = 0;
         self.bought = [SideSum::default(); CELLS];
         self.sold = [SideSum::default(); CELLS];
     }
 
-    fn accept(&mut self, trade: Trade) -> bool {
+    pub(crate) fn is_full(&self) -> bool {
+        self.count >= MAX_TRADES
+    }
+
+    pub(crate) fn accept(&mut self, trade: Trade) -> bool {
         let fits = (trade.buyer as usize) < MAX_ACCOUNTS
             && (trade.seller as usize) < MAX_ACCOUNTS
             && (trade.month as usize) < MAX_MONTHS
@@ -159,7 +131,7 @@ impl Session {
         }
     }
 
-    fn write_amounts(
+    pub(crate) fn write_amounts(
         &mut self,
         accounts: usize,
         prices: &[MonthPrices],
@@ -245,39 +217,35 @@ fn walk_day_trade(trades: &[Trade], account: u8, month: u8) -> i64 {
 
 // ---- What is measured.
 
-struct Book {
-    trades: [Trade; MAX_TRADES],
-    positions: [i32; CELLS],
-    adjustments: [i64; CELLS],
-    day_trades: [i64; CELLS],
+// A trade between some of the accounts, at a price near the full one.
+fn trade(numbers: &mut Numbers, accounts: u32) -> Trade {
+    let buyer = numbers.below(accounts) as u8;
+    let seller = numbers.below(accounts) as u8;
+    let month = numbers.below(16) as u8;
+    let contracts = 1 + numbers.below(20_000);
+    let price = 9_000_000 + numbers.below(1_000_000);
+    Trade {
+        buyer,
+        seller,
+        month,
+        rate: 10_000,
+        contracts,
+        price,
+    }
 }
 
-impl Book {
-    fn new() -> Book {
-        let mut numbers = Numbers { state: 1 };
-        let mut trades = [Trade::default(); MAX_TRADES];
-        for trade in &mut trades {
-            *trade = numbers.trade();
-        }
-        let mut positions = [0; CELLS];
-        for position in &mut positions {
-            *position = numbers.below(1_000_001) as i32 - 500_000;
-        }
-        Book {
-            trades,
-            positions,
-            adjustments: [0; CELLS],
-            day_trades: [0; CELLS],
-        }
+// The trades of every session, and the positions at its close.
+fn book(accounts: u32) -> ([Trade; MAX_TRADES], [i32; CELLS]) {
+    let mut numbers = Numbers::new();
+    let mut trades = [Trade::default(); MAX_TRADES];
+    for dealt in &mut trades {
+        *dealt = trade(&mut numbers, accounts);
     }
-
-    fn sum(&self) -> i64 {
-        let mut sum = 0i64;
-        for i in 0..CELLS {
-            sum = sum.wrapping_add(self.adjustments[i] ^ self.day_trades[i]);
-        }
-        sum
+    let mut positions = [0; CELLS];
+    for position in &mut positions {
+        *position = numbers.below(1_000_001) as i32 - 500_000;
     }
+    (trades, positions)
 }
 
 fn prices(round: u32) -> [MonthPrices; MAX_MONTHS] {
@@ -287,53 +255,55 @@ fn prices(round: u32) -> [MonthPrices; MAX_MONTHS] {
     }; MAX_MONTHS]
 }
 
-fn closes(count: u32) -> i64 {
-    let mut book = Book::new();
+// What the arrays of a close come to.
+pub(crate) fn array_sum(adjustments: &[i64], day_trades: &[i64]) -> i64 {
+    let mut sum = 0i64;
+    for (adjustment, day_trade) in adjustments.iter().zip(day_trades) {
+        sum = sum.wrapping_add(*adjustment ^ *day_trade);
+    }
+    sum
+}
+
+pub(crate) fn closes(count: u32, accounts: u32, trades: u32) -> i64 {
+    let (dealt, positions) = book(accounts);
+    let cells = MAX_MONTHS * accounts as usize;
     let mut session = Session::new();
+    let (mut adjustments, mut day_trades) = ([0; CELLS], [0; CELLS]);
     let mut sum = 0i64;
     for round in 0..count {
         session.clear();
-        for trade in &book.trades {
+        for trade in &dealt[..trades as usize] {
             session.accept(*trade);
         }
         session.write_amounts(
-            MAX_ACCOUNTS,
+            accounts as usize,
             &prices(round),
-            &book.positions,
-            &mut book.adjustments,
-            &mut book.day_trades,
+            &positions,
+            &mut adjustments[..cells],
+            &mut day_trades[..cells],
         );
-        sum = sum.wrapping_add(book.sum());
+        sum = sum.wrapping_add(array_sum(&adjustments[..cells], &day_trades[..cells]));
     }
     sum
 }
 
-fn walks(count: u32) -> i64 {
-    let mut book = Book::new();
+pub(crate) fn walks(count: u32, accounts: u32, trades: u32) -> i64 {
+    let (dealt, positions) = book(accounts);
+    let dealt = &dealt[..trades as usize];
+    let cells = MAX_MONTHS * accounts as usize;
+    let (mut adjustments, mut day_trades) = ([0; CELLS], [0; CELLS]);
     let mut sum = 0i64;
     for round in 0..count {
         let prices = prices(round);
-        for account in 0..MAX_ACCOUNTS {
-            for month in 0..MAX_MONTHS {
-                let (a, m) = (account as u8, month as u8);
-                let at = place(a, m);
-                book.adjustments[at] =
-                    walk_adjustment(&book.trades, a, m, book.positions[at], prices[month]);
-                book.day_trades[at] = walk_day_trade(&book.trades, a, m);
+        for account in 0..accounts as u8 {
+            for month in 0..MAX_MONTHS as u8 {
+                let at = place(account, month);
+                let of_month = prices[month as usize];
+                adjustments[at] = walk_adjustment(dealt, account, month, positions[at], of_month);
+                day_trades[at] = walk_day_trade(dealt, account, month);
             }
         }
-        sum = sum.wrapping_add(book.sum());
+        sum = sum.wrapping_add(array_sum(&adjustments[..cells], &day_trades[..cells]));
     }
     sum
-}
-
-fn main() -> ExitCode {
-    let words: Vec<String> = env::args().skip(1).collect();
-    let count = words.get(1).and_then(|word| word.parse::<u32>().ok());
-    match (words.first().map(String::as_str), count) {
-        (Some("closes"), Some(count)) => println!("{count} closes, sum {}", closes(count)),
-        (Some("walks"), Some(count)) => println!("{count} closes, sum {}", walks(count)),
-        _ => return ExitCode::FAILURE,
-    }
-    ExitCode::SUCCESS
 }

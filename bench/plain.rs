@@ -1,5 +1,11 @@
 // The same work as the proved program `measure`, in plain Rust: the same commands, the same prints.
-// Besides, chains of divided steps to compare with, and a count of the trials that a root takes.
+// Besides, to compare with, chains of divided steps and closes by a walk of the trades for each cell,
+// and a count of the trials that a root takes.
+mod book_plain;
+mod close_plain;
+
+use book_plain::{books, prices_alone, IDLE, IMPORTS, YEARS};
+use close_plain::{closes, walks};
 use std::cmp::Ordering;
 use std::env;
 use std::process::ExitCode;
@@ -433,7 +439,7 @@ fn on_tick(rate: u32, distance: u32) -> bool {
 const MAX_TRADES: u16 = 256;
 
 #[derive(Clone, Copy)]
-struct Trade {
+struct TradeLine {
     buyer: u8,
     seller: u8,
     month: u32,
@@ -553,7 +559,7 @@ fn number_of_four(bytes: &[u8]) -> u32 {
     u32::from_le_bytes([bytes[0], bytes[1], bytes[2], bytes[3]])
 }
 
-fn write(day: u16, trades: &[Trade], out: &mut [u8]) -> Result<usize, WriteFault> {
+fn write(day: u16, trades: &[TradeLine], out: &mut [u8]) -> Result<usize, WriteFault> {
     let count = trades.len();
     if is_short(out.len(), count) {
         return Err(WriteFault::Short);
@@ -574,7 +580,7 @@ fn is_short(room: usize, count: usize) -> bool {
     room < 4 || (room - 4) / 16 < count
 }
 
-fn are_coded(trades: &[Trade]) -> bool {
+fn are_coded(trades: &[TradeLine]) -> bool {
     for trade in trades {
         if !is_coded(*trade) {
             return false;
@@ -583,11 +589,11 @@ fn are_coded(trades: &[Trade]) -> bool {
     true
 }
 
-fn is_coded(trade: Trade) -> bool {
+fn is_coded(trade: TradeLine) -> bool {
     ContractCode::new(trade.month).is_some()
 }
 
-fn write_sides(trades: &[Trade], out: &mut [u8]) {
+fn write_sides(trades: &[TradeLine], out: &mut [u8]) {
     for line in 0..trades.len() {
         let at = 2 * line;
         let trade = trades[line];
@@ -595,14 +601,14 @@ fn write_sides(trades: &[Trade], out: &mut [u8]) {
     }
 }
 
-fn write_terms(trades: &[Trade], out: &mut [u8]) {
+fn write_terms(trades: &[TradeLine], out: &mut [u8]) {
     for line in 0..trades.len() {
         let at = 14 * line;
         write_line(trades[line], &mut out[at..at + 14]);
     }
 }
 
-fn write_line(trade: Trade, out: &mut [u8]) {
+fn write_line(trade: TradeLine, out: &mut [u8]) {
     let Some(code) = ContractCode::new(trade.month) else {
         unreachable!()
     };
@@ -623,7 +629,7 @@ impl SheetView<'_> {
         self.count as usize
     }
 
-    fn trade(&self, line: usize) -> Option<Trade> {
+    fn trade(&self, line: usize) -> Option<TradeLine> {
         let count = self.count();
         if line >= count || self.bytes.len() < 4 + 16 * count {
             return None;
@@ -641,9 +647,9 @@ fn terms_of(bytes: &[u8], count: usize, line: usize) -> &[u8] {
     &bytes[from..from + 14]
 }
 
-fn trade_from(sides: &[u8], terms: &[u8]) -> Option<Trade> {
+fn trade_from(sides: &[u8], terms: &[u8]) -> Option<TradeLine> {
     let code = ContractCode::from_bytes(&terms[0..6])?;
-    Some(Trade {
+    Some(TradeLine {
         buyer: sides[0],
         seller: sides[1],
         month: code.month(),
@@ -721,7 +727,7 @@ enum Cause {
 fn price_trade<C: Calendar>(
     calendar: &C,
     session: u32,
-    trade: Trade,
+    trade: TradeLine,
 ) -> Result<PricedTrade, Cause> {
     let Some(expiry) = expiry(calendar, trade.month) else {
         return Err(Cause::NoSession);
@@ -779,13 +785,13 @@ impl Numbers {
         (self.step() >> 2) % 100_000_000
     }
 
-    fn trade(&mut self) -> Trade {
+    fn trade(&mut self) -> TradeLine {
         let buyer = self.below(32) as u8;
         let seller = self.below(32) as u8;
         let month = 324 + self.below(60);
         let rate = self.below(100_000);
         let quantity = 1 + self.below(20_000);
-        Trade {
+        TradeLine {
             buyer,
             seller,
             month,
@@ -828,7 +834,7 @@ struct Total {
 }
 
 impl Total {
-    fn add(&mut self, calendar: &RuleCalendar, trade: Trade) {
+    fn add(&mut self, calendar: &RuleCalendar, trade: TradeLine) {
         self.lines = self.lines.wrapping_add(1);
         match price_trade(calendar, SESSION as u32, trade) {
             Ok(line) => {
@@ -851,14 +857,17 @@ impl Total {
     }
 }
 
+fn sheet_bytes(day: u16, trades: &[TradeLine]) -> Vec<u8> {
+    let mut bytes = vec![0; 4 + 16 * trades.len()];
+    let _ = write(day, trades, &mut bytes);
+    bytes
+}
+
 fn next_sheet(total: &mut Total, calendar: &RuleCalendar, numbers: &mut Numbers) {
     let lines = 1 + numbers.below(256);
-    let trades: Vec<Trade> = (0..lines).map(|_| numbers.trade()).collect();
-    let mut bytes = vec![0; 4 + 16 * trades.len()];
-    if write(SESSION, &trades, &mut bytes).is_ok() {
-        if let Ok(view) = read(&bytes) {
-            total.add_sheet(calendar, &view);
-        }
+    let trades: Vec<TradeLine> = (0..lines).map(|_| numbers.trade()).collect();
+    if let Ok(view) = read(&sheet_bytes(SESSION, &trades)) {
+        total.add_sheet(calendar, &view);
     }
 }
 
@@ -995,14 +1004,20 @@ fn correct<C: Calendar>(calendar: &C, source: &TableSource, from: u32, to: u32, 
     Some(corrected)
 }
 
+fn table(numbers: &mut Numbers) -> TableSource {
+    let entries = (0..2_000)
+        .map(|_| 1 + numbers.below(30_000_000))
+        .collect();
+    TableSource {
+        first: 9_000,
+        entries,
+    }
+}
+
 fn corrections(count: u32) -> u64 {
     let mut numbers = Numbers::new();
     let calendar = RuleCalendar::new(&[]);
-    let mut entries = Vec::new();
-    for _ in 0..2_000 {
-        entries.push(1 + numbers.below(30_000_000));
-    }
-    let source = TableSource { first: 9_000, entries };
+    let source = table(&mut numbers);
     let mut sum: u64 = 0;
     for _ in 0..count {
         let from = 9_000 + numbers.below(1_995);
@@ -1014,30 +1029,40 @@ fn corrections(count: u32) -> u64 {
     sum
 }
 
-fn answer(command: &str, count: u32) -> Option<String> {
-    match command {
-        "chains" => Some(format!("{count} chains, sum {}", chains(count))),
-        "prices" => Some(format!("{count} prices, sum {}", prices(count))),
-        "factors" => Some(format!("{count} factors, sum {}", factors(count))),
-        "corrections" => Some(format!("{count} corrections, sum {}", corrections(count))),
-        "sheets" => {
-            let Total { lines, priced, sum } = sheets(count);
-            Some(format!(
-                "{count} sheets, {lines} lines, {priced} priced, sum {sum}"
-            ))
+fn answer(command: &str, numbers: &[u32]) -> Option<String> {
+    let printed = match (command, numbers) {
+        ("chains", [n]) => format!("{n} chains, sum {}", chains(*n)),
+        ("prices", [n]) => format!("{n} prices, sum {}", prices(*n)),
+        ("factors", [n]) => format!("{n} factors, sum {}", factors(*n)),
+        ("corrections", [n]) => format!("{n} corrections, sum {}", corrections(*n)),
+        ("sheets", [n]) => {
+            let Total { lines, priced, sum } = sheets(*n);
+            format!("{n} sheets, {lines} lines, {priced} priced, sum {sum}")
         }
-        _ => None,
-    }
+        ("closes" | "walks", [n, accounts @ 1..=32, trades @ 0..=256]) => {
+            let of = match command {
+                "closes" => closes,
+                _ => walks,
+            };
+            let sum = of(*n, *accounts, *trades);
+            format!("{n} closes of {accounts} accounts and {trades} trades, sum {sum}")
+        }
+        ("imports", [n]) => format!("imports: {}", books(IMPORTS, *n)),
+        ("idle", [n]) => format!("idle: {}", books(IDLE, *n)),
+        ("import-prices", [n]) => format!("import-prices: {}", prices_alone(IMPORTS, *n)),
+        ("years", [n]) => format!("years: {}", books(YEARS, *n)),
+        ("year-prices", [n]) => format!("year-prices: {}", prices_alone(YEARS, *n)),
+        _ => return None,
+    };
+    Some(printed)
 }
 
 fn main() -> ExitCode {
     let words: Vec<String> = env::args().skip(1).collect();
-    let printed = match words.as_slice() {
-        [command] if command == "trials" => return trials(),
-        [command, count] => count
-            .parse()
-            .ok()
-            .and_then(|count| answer(command, count)),
+    let numbers: Option<Vec<u32>> = words.iter().skip(1).map(|word| word.parse().ok()).collect();
+    let printed = match (words.first().map(String::as_str), numbers) {
+        (Some("trials"), Some(_)) => return trials(),
+        (Some(command), Some(numbers)) => answer(command, &numbers),
         _ => None,
     };
     match printed {
@@ -1046,7 +1071,7 @@ fn main() -> ExitCode {
             ExitCode::SUCCESS
         }
         None => {
-            eprintln!("plain: a command is chains N, prices N, factors N, corrections N, sheets N or trials");
+            eprintln!("plain: a command is one of measure, chains N, walks N ACCOUNTS TRADES or trials");
             ExitCode::FAILURE
         }
     }

@@ -1,11 +1,15 @@
-// Closes of a full session in a full book.
+// Closes of a session in a book of 16 months.
+ghost use Rattle.std.specs.Prelude.{◌<◌, ◌≤◌};
+
 use crate::numbers::Numbers;
 use amounts::{CELLS, MAX_MONTHS, MAX_TRADES, MonthPrices, SessionTrades, Trade};
 
-// A trade of a full book, at a price near the full one.
-fn trade(numbers: &mut Numbers) -> Trade {
-    let buyer = numbers.below(32) as u8;
-    let seller = numbers.below(32) as u8;
+// A trade between some of the accounts, at a price near the full one.
+fn trade(numbers: &mut Numbers, accounts: u32) -> Trade
+    requires { (0 < accounts) × (accounts ≤ 32) }
+{
+    let buyer = numbers.below(accounts) as u8;
+    let seller = numbers.below(accounts) as u8;
     let month = numbers.below(16) as u8;
     let contracts = 1 + numbers.below(20_000);
     let price = 9_000_000 + numbers.below(1_000_000);
@@ -20,11 +24,13 @@ fn trade(numbers: &mut Numbers) -> Trade {
 }
 
 // The trades of every session, and the positions at its close.
-fn book() -> ([Trade; MAX_TRADES], [i32; CELLS]) {
+fn book(accounts: u32) -> ([Trade; MAX_TRADES], [i32; CELLS])
+    requires { (0 < accounts) × (accounts ≤ 32) }
+{
     let mut numbers = Numbers::new();
-    let mut trades = [trade(&mut Numbers::new()); MAX_TRADES];
+    let mut trades = [trade(&mut Numbers::new(), accounts); MAX_TRADES];
     for dealt in &mut trades {
-        *dealt = trade(&mut numbers);
+        *dealt = trade(&mut numbers, accounts);
     }
     let mut positions = [0; CELLS];
     for position in &mut positions {
@@ -41,35 +47,39 @@ fn prices(round: u32) -> [MonthPrices; MAX_MONTHS] {
     }; MAX_MONTHS]
 }
 
-// What both arrays come to.
-fn array_sum(adjustments: &[i64; CELLS], day_trades: &[i64; CELLS]) -> i64 {
+// What the arrays of a close come to.
+pub(crate) fn array_sum(adjustments: &[i64], day_trades: &[i64]) -> i64 {
     let mut sum = 0i64;
-    for i in 0..CELLS {
-        sum = sum.wrapping_add(adjustments[i] ^ day_trades[i]);
+    for (adjustment, day_trade) in adjustments.iter().zip(day_trades) {
+        sum = sum.wrapping_add(*adjustment ^ *day_trade);
     }
     sum
 }
 
-// The sum of the amounts of so many closes.
-pub(crate) fn closes(count: u32) -> i64 {
-    let (trades, positions) = book();
+// The sum of the amounts of so many closes, of so many accounts and trades.
+pub(crate) fn closes(count: u32, accounts: u32, trades: u32) -> i64
+    requires accounts { (0 < accounts) × (accounts ≤ 32) }
+    requires trades { trades ≤ 256 }
+{
+    let (dealt, positions) = book(accounts);
+    let cells = 16 * accounts as usize;
     let mut session = SessionTrades::new();
     let mut adjustments = [0; CELLS];
     let mut day_trades = [0; CELLS];
     let mut sum = 0i64;
     for round in 0..count {
         session.clear();
-        for dealt in &trades {
-            session.accept(*dealt);
+        for trade in &dealt[..trades as usize] {
+            session.accept(*trade);
         }
         session.write_amounts(
-            32,
+            accounts as usize,
             &prices(round),
             &positions,
-            &mut adjustments,
-            &mut day_trades,
+            &mut adjustments[..cells],
+            &mut day_trades[..cells],
         );
-        sum = sum.wrapping_add(array_sum(&adjustments, &day_trades));
+        sum = sum.wrapping_add(array_sum(&adjustments[..cells], &day_trades[..cells]));
     }
     sum
 }

@@ -11,7 +11,7 @@ const FIRST: u32 = 9_000;
 const DAYS: u32 = 2_000;
 
 // A rate for every day of the table.
-fn table(heap: Global, numbers: &mut Numbers) -> Result<TableSource, AllocError> {
+pub(crate) fn table(heap: Global, numbers: &mut Numbers) -> Result<TableSource, AllocError> {
     let entries = (0..DAYS)
         .map(|_| 1 + numbers.below(30_000_000))
         .collect(heap)?;

@@ -1,6 +1,8 @@
-// Prices, day factors, corrections, trade sheets and closes in bulk, over numbers that every run repeats.
+// Prices, day factors, corrections, trade sheets, closes and whole books in bulk, over numbers that
+// every run repeats.
 #![tactic(auto)]
 
+mod books;
 mod closes;
 mod figures;
 mod gaps;
@@ -8,6 +10,7 @@ mod numbers;
 mod sheets;
 
 use anyhow::anyhow;
+use books::{IDLE, IMPORTS, Plan, YEARS, books, prices_alone};
 use closes::closes;
 use figures::{factors, prices};
 use gaps::corrections;
@@ -16,33 +19,55 @@ use std::alloc::Global;
 use std::process::ExitCode;
 use std::{env, io};
 
-const HELP: &str = "a command is prices N, factors N, corrections N, sheets N or closes N";
+const HELP: &str =
+    "a command is prices N, factors N, corrections N, sheets N, closes N ACCOUNTS TRADES, \
+imports N, idle N, import-prices N, years N or year-prices N";
 
 // What a command prints.
-fn answer(heap: Global, command: &str, count: u32) -> anyhow::Result<String> {
-    match command {
-        "prices" => Ok(format!(in heap; "{count} prices, sum {}", prices(count))?),
-        "factors" => Ok(format!(in heap; "{count} factors, sum {}", factors(count))?),
-        "corrections" => {
-            let sum = corrections(heap, count)?;
-            Ok(format!(in heap; "{count} corrections, sum {sum}")?)
+fn answer(heap: Global, command: &str, numbers: &[u32]) -> anyhow::Result<String> {
+    match (command, numbers) {
+        ("prices", [n]) => Ok(format!(in heap; "{n} prices, sum {}", prices(*n))?),
+        ("factors", [n]) => Ok(format!(in heap; "{n} factors, sum {}", factors(*n))?),
+        ("corrections", [n]) => {
+            let sum = corrections(heap, *n)?;
+            Ok(format!(in heap; "{n} corrections, sum {sum}")?)
         }
-        "sheets" => {
-            let total = sheets(heap, count)?;
-            Ok(format!(in heap; "{count} sheets, {total}")?)
+        ("sheets", [n]) => {
+            let total = sheets(heap, *n)?;
+            Ok(format!(in heap; "{n} sheets, {total}")?)
         }
-        "closes" => Ok(format!(in heap; "{count} closes, sum {}", closes(count))?),
-        _ => Err(anyhow!(HELP)),
+        ("closes", [n, accounts @ 1..=32, trades @ 0..=256]) => {
+            let sum = closes(*n, *accounts, *trades);
+            Ok(format!(in heap;
+                "{n} closes of {accounts} accounts and {trades} trades, sum {sum}"
+            )?)
+        }
+        _ => book_answer(heap, command, numbers),
     }
+}
+
+// What a command on books prints.
+fn book_answer(heap: Global, command: &str, numbers: &[u32]) -> anyhow::Result<String> {
+    let figures = match (command, numbers) {
+        ("imports", [n]) => books(heap, IMPORTS, *n)?,
+        ("idle", [n]) => books(heap, IDLE, *n)?,
+        ("import-prices", [n]) => prices_alone(heap, IMPORTS, *n)?,
+        ("years", [n]) => books(heap, YEARS, *n)?,
+        ("year-prices", [n]) => prices_alone(heap, YEARS, *n)?,
+        _ => return Err(anyhow!(HELP)),
+    };
+    Ok(format!(in heap; "{command}: {figures}")?)
 }
 
 fn run(rt: &HostRuntime) -> anyhow::Result<()> {
     let mut words = env::args(rt)?.skip(1);
-    let (Some(command), Some(count), None) = (words.next(), words.next(), words.next()) else {
-        return Err(anyhow!(HELP));
-    };
-    let count = count.as_str().parse::<u32>().map_err(|_| anyhow!(HELP))?;
-    let printed = answer(rt.alloc(), command.as_str(), count)?;
+    let command = words.next().ok_or(anyhow!(HELP))?;
+    let mut numbers = Vec::new(rt.alloc());
+    for word in words {
+        let number = word.as_str().parse::<u32>().map_err(|_| anyhow!(HELP))?;
+        numbers.push(number)?;
+    }
+    let printed = answer(rt.alloc(), command.as_str(), numbers.as_slice())?;
     println!(rt; "{printed}")?;
     Ok(())
 }

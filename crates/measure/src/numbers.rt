@@ -1,6 +1,7 @@
 // Numbers of a linear congruential generator.
 ghost use Rattle.std.specs.Prelude.{◌<◌};
 
+use model::Order;
 use sheet::TradeLine;
 
 #[derive(Drop)]
@@ -64,6 +65,24 @@ impl Numbers {
         TradeLine {
             buyer,
             seller,
+            month,
+            rate,
+            quantity,
+        }
+    }
+
+    // An order between two of 32 accounts in one of 16 months, at a rate on every step.
+    pub(crate) fn order(&mut self) -> Order
+        ensures { result.month < 16 }
+    {
+        let buyer = self.below(32);
+        let seller = (buyer + 1 + self.below(31)) % 32;
+        let month = self.below(16) as u8;
+        let rate = 10 * self.below(10_000);
+        let quantity = 1 + self.below(2_000);
+        Order {
+            buyer: buyer as u8,
+            seller: seller as u8,
             month,
             rate,
             quantity,

@@ -61,6 +61,17 @@ fn line_count(numbers: &mut Numbers) -> u32
     1 + numbers.below(256)
 }
 
+// The bytes of the sheet of these trades.
+pub(crate) fn sheet_bytes(
+    heap: Global,
+    day: u16,
+    trades: &[TradeLine],
+) -> Result<Vec<u8>, AllocError> {
+    let mut bytes = vec![in heap; 0u8; 4 + 16 * trades.len()]?;
+    let _ = write(day, trades, bytes.as_mut_slice());
+    Ok(bytes)
+}
+
 // Makes the trades of a sheet, writes them, and adds the sheet as it is read back.
 fn next_sheet(
     heap: Global,
@@ -71,11 +82,9 @@ fn next_sheet(
     let trades: Vec<TradeLine> = (0..line_count(numbers))
         .map(|_| numbers.trade())
         .collect(heap)?;
-    let mut bytes = vec![in heap; 0u8; 4 + 16 * trades.len()]?;
-    if write(SESSION, trades.as_slice(), bytes.as_mut_slice()).is_ok() {
-        if let Ok(view) = read(bytes.as_slice()) {
-            total.add_sheet(calendar, &view);
-        }
+    let bytes = sheet_bytes(heap, SESSION, trades.as_slice())?;
+    if let Ok(view) = read(bytes.as_slice()) {
+        total.add_sheet(calendar, &view);
     }
     Ok(())
 }
