@@ -31,7 +31,8 @@ impl fmt::Display for SheetFigures {
 }
 
 impl SheetFigures {
-    // Adds a line.
+    // Adds a line. Apart from its callers, so that its loop over days keeps to registers.
+    #[inline(never)]
     fn add(&mut self, calendar: &RuleCalendar, trade: TradeLine) {
         self.lines = self.lines.wrapping_add(1);
         match price_trade(calendar, SESSION as u32, trade) {
