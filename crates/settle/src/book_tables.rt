@@ -6,33 +6,14 @@ use crate::tables::{Table, TableFolder};
 use serde::Serialize;
 use std::alloc::{AllocError, Global};
 
-const CLOSES: [&str; 8] = [
-    "day",
-    "account",
-    "client",
-    "participant",
-    "member",
-    "month",
-    "adjustment",
-    "day_trade",
-];
+const CLOSES: &str = "day,account,client,participant,member,month,adjustment,day_trade";
 
-const TRADES: [&str; 10] = [
-    "day",
-    "line",
-    "rate_buyer",
-    "rate_seller",
-    "price_buyer",
-    "price_seller",
-    "month",
-    "rate",
-    "quantity",
-    "price",
-];
+const TRADES: &str =
+    "day,line,rate_buyer,rate_seller,price_buyer,price_seller,month,rate,quantity,price";
 
-const BALANCES: [&str; 6] = ["account", "client", "participant", "member", "paid", "due"];
+const BALANCES: &str = "account,client,participant,member,paid,due";
 
-const POSITIONS: [&str; 3] = ["account", "month", "contracts"];
+const POSITIONS: &str = "account,month,contracts";
 
 // The fields of a row stand in the order of its columns.
 #[derive(Drop, Serialize)]

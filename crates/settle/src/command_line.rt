@@ -14,14 +14,14 @@ use std::process::ExitCode;
 pub(crate) const BAD_COMMAND_LINE: u8 = 2;
 
 const HELP: &str =
-    "settle run [--strict] [--json] [--csv DIR] JOURNAL     replays a book from its journal, and says what each call answered
-settle prices [--json] [--csv DIR] OFFICE SHEET        prices every line of a sheet on the office's calendar
-settle correct OFFICE FROM TO PRICE                    corrects a settlement price over the reserve days of a gap
-settle sheet show FILE                                 prints a sheet as text
-settle sheet make TEXTFILE FILE                        writes the sheet that a text describes
-settle price RATE DAYS                                 the price of a dealt rate over a number of reserve days
-settle factor RATE                                     the day factor of a DI rate
-settle help                                            this list
+    "settle run [--strict] [--json] [--csv DIR] JOURNAL  replays a book from its journal, and says what each call answered
+settle prices [--json] [--csv DIR] OFFICE SHEET     prices every line of a sheet on the office's calendar
+settle correct OFFICE FROM TO PRICE                 corrects a settlement price over the reserve days of a gap
+settle sheet show FILE                              prints a sheet as text
+settle sheet make TEXTFILE FILE                     writes the sheet that a text describes
+settle price RATE DAYS                              the price of a dealt rate over a number of reserve days
+settle factor RATE                                  the day factor of a DI rate
+settle help                                         this list
 ";
 
 // A word that a command asks for; a number below 0 is no option.

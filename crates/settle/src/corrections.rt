@@ -76,7 +76,7 @@ impl Correction<'_> {
     // Adds the row of a reserve day, with its rate, the factor and the price after it, and answers the
     // factor.
     fn push_row(&self, text: &mut String, day: u32) -> Result<u32, Complaint<'static>> {
-        let price = self.corrected_to(day + 1)?;
+        let price = self.corrected_to(day.saturating_add(1))?;
         let rate = self.rate_on(day)?;
         let value = day_factor(rate).ok_or(Complaint::Words(RATE_TOO_HIGH))?;
         let source = if self.office.rates.is_arbitrated(day) {
@@ -118,7 +118,7 @@ impl Correction<'_> {
         let corrected = self.corrected_to(to)?;
         let (rows, last) = self.rows(heap)?;
         let days = Counted {
-            count: i64::from(count_reserve_days(&self.office.calendar, from, to)),
+            count: i128::from(count_reserve_days(&self.office.calendar, from, to)),
             one: "reserve day",
             many: "reserve days",
         };

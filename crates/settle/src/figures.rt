@@ -88,13 +88,13 @@ impl fmt::Display for Reais {
 // A count of things, in the word for one or for many.
 #[derive(Clone, Copy)]
 pub(crate) struct Counted {
-    pub(crate) count: i64,
+    pub(crate) count: i128,
     pub(crate) one: &'static str,
     pub(crate) many: &'static str,
 }
 
 impl Counted {
-    pub(crate) fn lines(count: i64) -> Counted {
+    pub(crate) fn lines(count: i128) -> Counted {
         Counted {
             count,
             one: "line",
@@ -102,7 +102,7 @@ impl Counted {
         }
     }
 
-    pub(crate) fn contracts(count: i64) -> Counted {
+    pub(crate) fn contracts(count: i128) -> Counted {
         Counted {
             count,
             one: "contract",

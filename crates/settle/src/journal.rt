@@ -34,7 +34,7 @@ pub(crate) struct CallLine<'a> {
     request: Request,
 }
 
-impl CallLine<'_> {
+impl<'a> CallLine<'a> {
     // The call to the book.
     pub(crate) fn call(&self) -> Call<'_> {
         match &self.request {
@@ -44,8 +44,11 @@ impl CallLine<'_> {
     }
 
     // The word that names the call.
-    pub(crate) fn name(&self) -> &str {
-        self.words.first().copied().unwrap_or("")
+    pub(crate) fn name(&self) -> &'a str {
+        match self.words.first() {
+            Some(word) => word,
+            None => "",
+        }
     }
 }
 

@@ -36,9 +36,9 @@ struct Members<'a> {
     #[serde(skip_serializing_if = "Option::is_none")]
     day: Option<String>,
     #[serde(skip_serializing_if = "Option::is_none")]
-    adjustments: Option<Vec<&'a [i64]>>,
+    adjustments: Option<Vec<Vec<i64>>>,
     #[serde(skip_serializing_if = "Option::is_none")]
-    day_trades: Option<Vec<&'a [i64]>>,
+    day_trades: Option<Vec<Vec<i64>>>,
     #[serde(skip_serializing_if = "Option::is_none")]
     contracts: Option<i32>,
     #[serde(skip_serializing_if = "Option::is_none")]
@@ -50,21 +50,21 @@ struct Members<'a> {
 }
 
 // What a close wrote in one of its two arrays, a row for each account.
-fn rows<'a>(
+fn rows(
     heap: Global,
-    session: &'a ClosedSession,
-    amounts: &'a [i64],
-) -> Result<Vec<&'a [i64]>, AllocError> {
+    session: &ClosedSession,
+    amounts: &[i64],
+) -> Result<Vec<Vec<i64>>, AllocError> {
     let mut rows = Vec::new(heap);
     for account in 0..session.dues.len() {
-        rows.push(session.row(amounts, account))?;
+        rows.push(Vec::from_slice(heap, session.row(amounts, account))?)?;
     }
     Ok(rows)
 }
 
 impl<'a> Members<'a> {
     // Those that every line has.
-    fn of(line: &'a CallLine<'_>) -> Members<'a> {
+    fn of(line: &CallLine<'a>) -> Members<'a> {
         Members {
             line: line.number,
             call: line.name(),
@@ -93,7 +93,7 @@ impl<'a> Members<'a> {
         Ok(())
     }
 
-    fn set_close(&mut self, heap: Global, session: &'a ClosedSession) -> Result<(), AllocError> {
+    fn set_close(&mut self, heap: Global, session: &ClosedSession) -> Result<(), AllocError> {
         let closing = &session.closing;
         self.set_day(heap, session.day)?;
         self.adjustments = Some(rows(heap, session, closing.adjustments.as_slice())?);
@@ -130,7 +130,7 @@ impl<'a> Members<'a> {
     fn set_answer(
         &mut self,
         heap: Global,
-        story: &'a Story,
+        story: &Story,
         answer: &Answer,
     ) -> Result<(), AllocError> {
         match *answer {

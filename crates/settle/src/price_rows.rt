@@ -8,33 +8,13 @@ use serde::Serialize;
 use sheet::TradeLine;
 use std::alloc::{AllocError, Global};
 
-const LINES: [&str; 13] = [
-    "session",
-    "line",
-    "rate_buyer",
-    "rate_seller",
-    "price_buyer",
-    "price_seller",
-    "month",
-    "expiry",
-    "days",
-    "rate",
-    "quantity",
-    "price",
-    "not_priced",
-];
+const LINES: &str =
+    "session,line,rate_buyer,rate_seller,price_buyer,price_seller,month,expiry,days,rate,quantity,price,not_priced";
 
-const TOTALS: [&str; 7] = [
-    "session",
-    "lines",
-    "lines_priced",
-    "lines_not_priced",
-    "contracts",
-    "contracts_priced",
-    "contracts_not_priced",
-];
+const TOTALS: &str =
+    "session,lines,lines_priced,lines_not_priced,contracts,contracts_priced,contracts_not_priced";
 
-const MONTHS: [&str; 4] = ["session", "month", "lines", "contracts"];
+const MONTHS: &str = "session,month,lines,contracts";
 
 // The fields of a row stand in the order of its columns.
 #[derive(Drop, Serialize)]

@@ -67,7 +67,7 @@ struct ImportWords {
 
 impl fmt::Display for ImportWords {
     fn fmt<W: fmt::Write>(&self, f: &mut fmt::Formatter<W>) -> fmt::Result {
-        let lines = Counted::lines(self.outcome.taken as i64);
+        let lines = Counted::lines(self.outcome.taken as i128);
         match self.outcome.stop {
             None => write!(f, "{lines} taken"),
             Some(stop) => write!(f, "{lines} taken; {}", StopWords { stop }),
@@ -91,7 +91,7 @@ impl fmt::Display for Answer {
             Answer::WrittenOff { number, day } => {
                 write!(f, "book {number}, session {}, written off", date(day))
             }
-            Answer::Position(contracts) => write!(f, "{}", Counted::contracts(contracts as i64)),
+            Answer::Position(contracts) => write!(f, "{}", Counted::contracts(i128::from(contracts))),
             Answer::Balance(balance) => {
                 let paid = Reais { centavos: balance.paid };
                 let due = Reais { centavos: balance.due };

@@ -27,7 +27,7 @@ pub(crate) struct PriceOptions<'a> {
 #[derive(Clone, Copy)]
 struct TotalLine {
     all: Counted,
-    priced: i64,
+    priced: i128,
 }
 
 impl fmt::Display for TotalLine {
@@ -128,16 +128,24 @@ impl Report<'_> {
         }
     }
 
+    // Adds the lines of the sheet.
+    fn push_rows(&self, text: &mut String) -> Result<(), AllocError> {
+        for (line, trade) in self.view.trades().enumerate() {
+            self.push_row(text, line, trade)?;
+        }
+        Ok(())
+    }
+
     // Adds the two lines of totals.
     fn push_totals(&self, text: &mut String) -> Result<(), AllocError> {
         let (all, priced) = self.totals();
         let of_lines = TotalLine {
-            all: Counted::lines(i64::from(all.lines)),
-            priced: i64::from(priced.lines),
+            all: Counted::lines(i128::from(all.lines)),
+            priced: i128::from(priced.lines),
         };
         let of_contracts = TotalLine {
-            all: Counted::contracts(all.contracts as i64),
-            priced: priced.contracts as i64,
+            all: Counted::contracts(i128::from(all.contracts)),
+            priced: i128::from(priced.contracts),
         };
         write!(text, "{of_lines}{of_contracts}")
     }
@@ -145,14 +153,12 @@ impl Report<'_> {
     // The whole print.
     fn print(&self, heap: Global) -> Result<String, AllocError> {
         let mut text = format!(in heap; "session {}\n{HEADING}", date(self.view.day()))?;
-        for (line, trade) in self.view.trades().enumerate() {
-            self.push_row(&mut text, line, trade)?;
-        }
+        self.push_rows(&mut text)?;
         self.push_totals(&mut text)?;
         for month in self.months(heap)? {
             let tally = self.month(month);
-            let lines = Counted::lines(i64::from(tally.lines));
-            let contracts = Counted::contracts(tally.contracts as i64);
+            let lines = Counted::lines(i128::from(tally.lines));
+            let contracts = Counted::contracts(i128::from(tally.contracts));
             write!(text, "{}: {lines}, {contracts}\n", Code { month })?;
         }
         Ok(text)

@@ -169,7 +169,7 @@ pub(crate) fn make(rt: &HostRuntime, text: &str, file: &str) -> Result<String, F
     let (count, bytes) = sheet_of(&Source { heap, file: text }, lines.as_str())?;
     in_words(heap, write_whole(rt, file, bytes.as_slice()))?;
     let trades = Counted {
-        count: count as i64,
+        count: count as i128,
         one: "trade",
         many: "trades",
     };

@@ -13,11 +13,15 @@ pub(crate) struct Table {
 }
 
 impl Table {
-    // A table without rows. Kept: a table in memory is refused for want of it alone.
-    pub(crate) fn new<const N: usize>(heap: Global, columns: [&str; N]) -> Result<Table, AllocError> {
+    // A table without rows, of columns that are named one after another with commas between them.
+    // Kept: a table in memory is refused for want of it alone.
+    pub(crate) fn new(heap: Global, columns: &str) -> Result<Table, AllocError> {
         let mut builder = WriterBuilder::new();
-        let mut writer = builder.has_headers(false).from_writer(Vec::new(heap));
-        writer.write_record(columns).map_err(|_| AllocError)?;
+        builder.has_headers(false);
+        let mut writer = builder.from_writer(Vec::new(heap));
+        writer
+            .write_record(columns.split(','))
+            .map_err(|_| AllocError)?;
         Ok(Table { heap, writer })
     }
 

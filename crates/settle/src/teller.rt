@@ -12,8 +12,7 @@ use sheet::{TradeLine, read};
 use std::alloc::{AllocError, Global};
 use std::mem;
 
-// What has been heard so far: the lines that are not answered yet, the open session, and that of the
-// slip.
+// What has been heard so far of the lines, the open session, and that of the slip.
 #[derive(Drop)]
 pub(crate) struct Teller<'a> {
     heap: Global,
@@ -53,8 +52,7 @@ impl<'a> Teller<'a> {
 
     // The reply to the next line.
     fn hear_line(&mut self, reply: Reply) -> Result<(), AllocError> {
-        if let Some((line, rest)) = self.lines.split_first() {
-            self.lines = rest;
+        if let Some(line) = self.lines.get(self.story.answers.len()) {
             let answer = self.answer(line.number, line.call(), reply)?;
             self.story.answers.push(answer)?;
         }
@@ -139,10 +137,11 @@ impl<'a> Teller<'a> {
             _ => 0,
         };
         let expiry = expiry(self.calendar, number).unwrap_or(0);
+        let days = self.days_to(expiry);
         self.story.months.push(Month {
             number,
             expiry,
-            days: self.days_to(expiry),
+            days,
             mark: None,
         })?;
         Ok(Answer::Listed { index, expiry })
