@@ -12,7 +12,3 @@ length-with_last xs (Some x) = omega (arith, length_push xs x)
 pub get_or-with_last : {X : Type 0} (xs : List X) (o : Option X) (d : X) (i : ℕ) → i < length xs → get_or (with_last xs o) i d ≡ get_or xs i d
 get_or-with_last xs None d i within = refl
 get_or-with_last xs (Some x) d i within = get_or_append_left xs (x ∷ []) d i within
-
-pub All-with_last : {X : Type 0} (P : X → Type 0) (xs : List X) (o : Option X) → AllByRecursion P xs → ((x : X) → o ≡ Some x → P x) → AllByRecursion P (with_last xs o)
-All-with_last P xs None all last = all
-All-with_last P xs (Some x) all last = All-push P xs x all (last x refl)

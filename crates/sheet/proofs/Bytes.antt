@@ -6,10 +6,6 @@ use Rattle.std.proofs.lemmas.Nat.{div_below}
 use Rattle.std.proofs.lemmas.List.{drop_at, drop-drop, take-take, drop-take}
 use Rattle.sheet.specs.Sheet.{little, number}
 
-pub length-little : (k n : ℕ) → length (little k n) ≡ k
-length-little zero n = refl
-length-little (suc k) n = ap suc (length-little k (n / 256))
-
 pub number-little : (k n : ℕ) → n < 256 ^ k → number (little k n) ≡ n
 number-little zero n h = omega arith
 number-little (suc k) n h =
@@ -28,13 +24,6 @@ little-number (b ∷ bs) h =
 pub number-below : (bs : List ℕ) → AllByRecursion (λ b. b < 256) bs → number bs < 256 ^ length bs
 number-below [] h = omega arith
 number-below (b ∷ bs) h = let l : b < 256 = h.0 in omega (arith, number-below bs h.1, pow-suc 256 (length bs))
-
--- the four bytes of a number, each by itself
-pub little-four : (n : ℕ) → (n % 256) ∷ (n / 256 % 256) ∷ (n / 65536 % 256) ∷ (n / 16777216 % 256) ∷ [] ≡ little 4 n
-little-four n =
-    let a : n / 65536 ≡ n / 256 / 256 = omega arith in
-    let b : n / 16777216 ≡ n / 256 / 256 / 256 = omega arith in
-    cc
 
 -- a part behind a front, a part within a front, a part of a part, a part in two
 pub chunk-past : {X : Type 0} (p q : List X) (n i k : ℕ) → length p ≡ n → chunk (n + i) k (p ++ q) ≡ chunk i k q

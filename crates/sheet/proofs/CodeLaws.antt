@@ -48,11 +48,6 @@ code-back m h =
     let e = month-back m h in
     (decides-code (code_bytes m)).1 (omega arith, ap code_bytes (sym e))
 
--- reading a code tests the bytes
-pub code-tested : (b : List ℕ) (r : Option ContractCode) → MatchOption r (NoCode b) (λ c. Names b c.month) → is_some r ≡ is_code b
-code-tested b None h = sym (false_from_ne_true (is_code b) (λ is. let d = (decides-code b).0 is in h (month_of b) d.0 d.1))
-code-tested b (Some c) h = sym (ap is_code h.0 ∙ code-back c.month c.coded)
-
 -- a month's bytes are the code of no other month
 pub names-only : (b : List ℕ) (m : ℕ) → m ≤ LAST_MONTH → b ≡ code_bytes m → Names b m
 names-only b m h e =

@@ -52,10 +52,6 @@ part-more front old out row at m l e =
     let s = append_assoc front row (drop (at + m) old) in
     cc
 
--- what fills a list leaves nothing of what it held
-pub nothing_left : (xs old : List ℕ) (n : ℕ) → length old ≡ n → xs ++ drop n old ≡ xs
-nothing_left xs old n l = ap (λ (z : List ℕ). xs ++ z) (drop_all n old (omega arith)) ∙ append-nil xs
-
 -- one row more
 pub row_more : {X : Type 0} (f : X → List ℕ) (w : ℕ) → ((x : X) → length (f x) ≡ w) → (xs : List X) (d : X) (old out row : List ℕ) (i : ℕ)
     → i < length xs → row ≡ f (get_or xs i d) → out ≡ flat_map f (take i xs) ++ drop (w * i) old
