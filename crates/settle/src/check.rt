@@ -97,7 +97,9 @@ impl Figures {
 
     // With contracts that were sold in rate at a price, or bought where they are below 0.
     fn traded(self, contracts: i128, price: u32) -> Option<Figures> {
-        let worth = contracts.checked_mul(i128::from(price))?.checked_mul(CENTAVO)?;
+        let worth = contracts
+            .checked_mul(i128::from(price))?
+            .checked_mul(CENTAVO)?;
         Some(Figures {
             value: self.value.checked_sub(worth)?,
             contracts: self.contracts.checked_add(contracts)?,
@@ -107,7 +109,10 @@ impl Figures {
 
     // At the last price of the month.
     fn at_last_price(self, price: u32) -> Option<Checked> {
-        let worth = self.contracts.checked_mul(i128::from(price))?.checked_mul(CENTAVO)?;
+        let worth = self
+            .contracts
+            .checked_mul(i128::from(price))?
+            .checked_mul(CENTAVO)?;
         let value = self.value.checked_add(worth)?;
         let apart = self.adjustments.checked_sub(value)?.checked_abs()?;
         Some(Checked {
@@ -210,7 +215,12 @@ impl<'a> Ledger<'a> {
 }
 
 // The day factors of the reserve days from a day, included, to another, excluded.
-fn factors_between(heap: Global, replay: &Replay, from: u32, to: u32) -> Result<Vec<u32>, AllocError> {
+fn factors_between(
+    heap: Global,
+    replay: &Replay,
+    from: u32,
+    to: u32,
+) -> Result<Vec<u32>, AllocError> {
     let mut factors = Vec::new(heap);
     for day in from..to {
         if replay.book.calendar().kind(day).is_reserve()

@@ -41,37 +41,46 @@ fn flag<'a>(heap: Global, name: &'a str, help: &'a str) -> Arg<'a> {
 
 // The option that names a folder for tables.
 fn csv_option<'a>(heap: Global) -> Arg<'a> {
-    Arg::new(heap, "csv")
-        .long("csv")
-        .value_name("DIR")
-        .help("writes tables of comma-separated values into the folder DIR")
+    Arg::new(heap, "csv").long("csv").value_name("DIR").help(
+        "writes tables of comma-separated values into the folder DIR",
+    )
 }
 
 fn run_command<'a>(heap: Global) -> Result<Command<'a>, Error> {
-    Ok(Command::new(heap, "run")
-        .about("replays a book from its journal, and says what each call answered")
-        .arg(flag(heap, "strict", "ends the run at the first refused call"))?
-        .arg(flag(heap, "json", "prints an object of JSON for each call"))?
-        .arg(csv_option(heap))?
-        .arg(word(heap, "JOURNAL", "the lines of an office, a book line, and the calls"))?)
+    Ok(
+        Command::new(heap, "run")
+            .about("replays a book from its journal, and says what each call answered")
+            .arg(flag(heap, "strict", "ends the run at the first refused call"))?
+            .arg(flag(heap, "json", "prints an object of JSON for each call"))?
+            .arg(csv_option(heap))?
+            .arg(word(
+                heap,
+                "JOURNAL",
+                "the lines of an office, a book line, and the calls",
+            ))?,
+    )
 }
 
 fn prices_command<'a>(heap: Global) -> Result<Command<'a>, Error> {
-    Ok(Command::new(heap, "prices")
-        .about("prices every line of a sheet on the office's calendar")
-        .arg(flag(heap, "json", "prints an object of JSON for each line"))?
-        .arg(csv_option(heap))?
-        .arg(word(heap, "OFFICE", "a calendar and rates"))?
-        .arg(word(heap, "SHEET", "a trade sheet"))?)
+    Ok(
+        Command::new(heap, "prices")
+            .about("prices every line of a sheet on the office's calendar")
+            .arg(flag(heap, "json", "prints an object of JSON for each line"))?
+            .arg(csv_option(heap))?
+            .arg(word(heap, "OFFICE", "a calendar and rates"))?
+            .arg(word(heap, "SHEET", "a trade sheet"))?,
+    )
 }
 
 fn correct_command<'a>(heap: Global) -> Result<Command<'a>, Error> {
-    Ok(Command::new(heap, "correct")
-        .about("corrects a settlement price over the reserve days of a gap")
-        .arg(word(heap, "OFFICE", "a calendar and rates"))?
-        .arg(word(heap, "FROM", "the day of the price, a date like 2026-12-30"))?
-        .arg(word(heap, "TO", "the day to which it is corrected"))?
-        .arg(word(heap, "PRICE", "points, like 99925.00"))?)
+    Ok(
+        Command::new(heap, "correct")
+            .about("corrects a settlement price over the reserve days of a gap")
+            .arg(word(heap, "OFFICE", "a calendar and rates"))?
+            .arg(word(heap, "FROM", "the day of the price, a date like 2026-12-30"))?
+            .arg(word(heap, "TO", "the day to which it is corrected"))?
+            .arg(word(heap, "PRICE", "points, like 99925.00"))?,
+    )
 }
 
 fn sheet_command<'a>(heap: Global) -> Result<Command<'a>, Error> {
@@ -82,42 +91,50 @@ fn sheet_command<'a>(heap: Global) -> Result<Command<'a>, Error> {
         .about("writes the sheet that a text describes")
         .arg(word(heap, "TEXTFILE", "what show prints"))?
         .arg(word(heap, "FILE", "the sheet to write"))?;
-    Ok(Command::new(heap, "sheet")
-        .about("shows a trade sheet, or makes one")
-        .subcommand_required(true)
-        .disable_help_subcommand(true)
-        .subcommand(show)?
-        .subcommand(make)?)
+    Ok(
+        Command::new(heap, "sheet")
+            .about("shows a trade sheet, or makes one")
+            .subcommand_required(true)
+            .disable_help_subcommand(true)
+            .subcommand(show)?
+            .subcommand(make)?,
+    )
 }
 
 fn price_command<'a>(heap: Global) -> Result<Command<'a>, Error> {
-    Ok(Command::new(heap, "price")
-        .about("the price of a dealt rate over a number of reserve days")
-        .arg(word(heap, "RATE", "a percentage, like 10.5"))?
-        .arg(word(heap, "DAYS", "reserve days, up to 2520"))?)
+    Ok(
+        Command::new(heap, "price")
+            .about("the price of a dealt rate over a number of reserve days")
+            .arg(word(heap, "RATE", "a percentage, like 10.5"))?
+            .arg(word(heap, "DAYS", "reserve days, up to 2520"))?,
+    )
 }
 
 fn factor_command<'a>(heap: Global) -> Result<Command<'a>, Error> {
-    Ok(Command::new(heap, "factor")
-        .about("the day factor of a DI rate")
-        .arg(word(heap, "RATE", "a percentage, like 10.5"))?)
+    Ok(
+        Command::new(heap, "factor")
+            .about("the day factor of a DI rate")
+            .arg(word(heap, "RATE", "a percentage, like 10.5"))?,
+    )
 }
 
 // The whole command line.
 fn settle_command<'a>(heap: Global) -> Result<Command<'a>, Error> {
-    Ok(Command::new(heap, "settle")
-        .version("1.0.0")
-        .about("A settlement book of the DI1 future")
-        .subcommand_required(true)
-        .arg_required_else_help(true)
-        .disable_help_subcommand(true)
-        .subcommand(run_command(heap)?)?
-        .subcommand(prices_command(heap)?)?
-        .subcommand(correct_command(heap)?)?
-        .subcommand(sheet_command(heap)?)?
-        .subcommand(price_command(heap)?)?
-        .subcommand(factor_command(heap)?)?
-        .subcommand(Command::new(heap, "help").about("lists the commands"))?)
+    Ok(
+        Command::new(heap, "settle")
+            .version("1.0.0")
+            .about("A settlement book of the DI1 future")
+            .subcommand_required(true)
+            .arg_required_else_help(true)
+            .disable_help_subcommand(true)
+            .subcommand(run_command(heap)?)?
+            .subcommand(prices_command(heap)?)?
+            .subcommand(correct_command(heap)?)?
+            .subcommand(sheet_command(heap)?)?
+            .subcommand(price_command(heap)?)?
+            .subcommand(factor_command(heap)?)?
+            .subcommand(Command::new(heap, "help").about("lists the commands"))?,
+    )
 }
 
 // What the words of a command line ask, the program's name among them.
@@ -158,13 +175,24 @@ fn prices_print(rt: &HostRuntime, matches: &ArgMatches<'_>) -> Result<String, Fa
         json: matches.get_flag("json"),
         csv: matches.get_str("csv"),
     };
-    prices(rt, given(matches, "OFFICE"), given(matches, "SHEET"), options)
+    prices(
+        rt,
+        given(matches, "OFFICE"),
+        given(matches, "SHEET"),
+        options,
+    )
 }
 
 fn correct_print(rt: &HostRuntime, matches: &ArgMatches<'_>) -> Result<String, Failure> {
     let from = given(matches, "FROM");
     let to = given(matches, "TO");
-    correct_gap(rt, given(matches, "OFFICE"), from, to, given(matches, "PRICE"))
+    correct_gap(
+        rt,
+        given(matches, "OFFICE"),
+        from,
+        to,
+        given(matches, "PRICE"),
+    )
 }
 
 fn sheet_print(rt: &HostRuntime, matches: &ArgMatches<'_>) -> Result<String, Failure> {
@@ -176,17 +204,16 @@ fn sheet_print(rt: &HostRuntime, matches: &ArgMatches<'_>) -> Result<String, Fai
 }
 
 // What a command prints that is no run.
-fn other_print(
-    rt: &HostRuntime,
-    name: &str,
-    words: &ArgMatches<'_>,
-) -> Result<String, Failure> {
+fn other_print(rt: &HostRuntime, name: &str, words: &ArgMatches<'_>) -> Result<String, Failure> {
     let heap = rt.alloc();
     match name {
         "prices" => prices_print(rt, words),
         "correct" => correct_print(rt, words),
         "sheet" => sheet_print(rt, words),
-        "price" => in_words(heap, price_print(heap, given(words, "RATE"), given(words, "DAYS"))),
+        "price" => in_words(
+            heap,
+            price_print(heap, given(words, "RATE"), given(words, "DAYS")),
+        ),
         "factor" => in_words(heap, factor_print(heap, given(words, "RATE"))),
         _ => Ok(String::from_str(heap, HELP)?),
     }

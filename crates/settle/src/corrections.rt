@@ -93,7 +93,10 @@ impl Correction<'_> {
             value,
             places: FACTOR_PLACES,
         };
-        write!(text, "{date}   {rate:>9}  {source:<10}  {factor:>10}  {price:>10}\n")?;
+        write!(
+            text,
+            "{date}   {rate:>9}  {source:<10}  {factor:>10}  {price:>10}\n"
+        )?;
         Ok(value)
     }
 

@@ -32,7 +32,10 @@ pub(crate) enum Complaint<'a> {
     #[error("{0} is no session of the calendar")]
     NoSession(Day),
     #[error("refused {number}: {refusal}")]
-    Refused { number: u32, refusal: Refusal },
+    Refused {
+        number: u32,
+        refusal: Refusal,
+    },
     #[error("{0}")]
     Unpriceable(#[from] Unpriceable),
     #[error("{0}")]

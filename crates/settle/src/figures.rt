@@ -37,7 +37,10 @@ impl fmt::Display for Fixed {
         let places = self.places as usize;
         let whole = self.value / unit;
         let rest = self.value % unit;
-        let before = f.width().unwrap_or(0).saturating_sub(places.saturating_add(1));
+        let before = f
+            .width()
+            .unwrap_or(0)
+            .saturating_sub(places.saturating_add(1));
         write!(f, "{whole:>before$}.{rest:0places$}")
     }
 }

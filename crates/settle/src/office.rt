@@ -121,11 +121,7 @@ fn day_rate<'a>(form: &'static str, words: &[&'a str]) -> Result<DayRate, Compla
 }
 
 impl Draft {
-    fn take_exception<'a>(
-        &mut self,
-        make: &Make,
-        words: &[&'a str],
-    ) -> Result<(), Complaint<'a>> {
+    fn take_exception<'a>(&mut self, make: &Make, words: &[&'a str]) -> Result<(), Complaint<'a>> {
         match make {
             Make::Marked(_) => Err(Complaint::Words("a marked calendar takes no exception")),
             Make::Rule => Ok(self.exceptions.push(exception(words)?)?),

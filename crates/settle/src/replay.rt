@@ -96,7 +96,14 @@ pub(crate) fn run_lines(
 ) -> Result<Replay, Failure> {
     let Office { calendar, rates } = office;
     let agenda = Agenda::of(heap, lines)?;
-    let Ran { replies, book } = run(heap, calendar, rates, number, start, agenda.calls.as_slice())?;
+    let Ran { replies, book } = run(
+        heap,
+        calendar,
+        rates,
+        number,
+        start,
+        agenda.calls.as_slice(),
+    )?;
     let mut teller = Teller::new(heap, book.calendar(), number, lines);
     for (purpose, reply) in agenda.purposes.iter().zip(replies) {
         teller.hear(*purpose, reply)?;

@@ -8,7 +8,8 @@ use refusal::Refusal;
 use std::alloc::{AllocError, Global};
 use std::fmt;
 
-const TABLE_HEADING: &str = "       account  month      adjustment   day-trade part      total due\n";
+const TABLE_HEADING: &str =
+    "       account  month      adjustment   day-trade part      total due\n";
 
 // A refusal, in words.
 #[derive(Clone, Copy)]
@@ -79,11 +80,21 @@ impl fmt::Display for Answer {
     fn fmt<W: fmt::Write>(&self, f: &mut fmt::Formatter<W>) -> fmt::Result {
         match *self {
             Answer::Entered(index) => write!(f, "account {index}"),
-            Answer::Listed { index, expiry } => write!(f, "month {index}, expires {}", date(expiry)),
+            Answer::Listed { index, expiry } => write!(
+                f,
+                "month {index}, expires {}",
+                date(expiry)
+            ),
             Answer::Published => write!(f, "published"),
             Answer::Arbitrated => write!(f, "arbitrated"),
             Answer::Opened(day) => write!(f, "session {}", date(day)),
-            Answer::Traded(price) => write!(f, "{}", Points { hundredths: price as u64 }),
+            Answer::Traded(price) => write!(
+                f,
+                "{}",
+                Points {
+                    hundredths: price as u64
+                }
+            ),
             Answer::Imported(outcome) => write!(f, "{}", ImportWords { outcome }),
             Answer::Marked => write!(f, "marked"),
             Answer::Closed { day, .. } => write!(f, "session {} closed", date(day)),
@@ -91,10 +102,18 @@ impl fmt::Display for Answer {
             Answer::WrittenOff { number, day } => {
                 write!(f, "book {number}, session {}, written off", date(day))
             }
-            Answer::Position(contracts) => write!(f, "{}", Counted::contracts(i128::from(contracts))),
+            Answer::Position(contracts) => write!(
+                f,
+                "{}",
+                Counted::contracts(i128::from(contracts))
+            ),
             Answer::Balance(balance) => {
-                let paid = Reais { centavos: balance.paid };
-                let due = Reais { centavos: balance.due };
+                let paid = Reais {
+                    centavos: balance.paid,
+                };
+                let due = Reais {
+                    centavos: balance.due,
+                };
                 write!(f, "paid {paid}, due {due}")
             }
             Answer::Refused(refusal, detail) => write!(f, "{}", RefusalWords { refusal, detail }),
@@ -122,10 +141,19 @@ fn push_table(text: &mut String, story: &Story, session: &ClosedSession) -> Resu
         let day_trades = session.row(session.closing.day_trades.as_slice(), account);
         let amounts = adjustments.iter().zip(day_trades);
         for (month, (adjustment, day_trade)) in story.months.iter().zip(amounts) {
-            let code = Code { month: month.number };
-            let adjustment = Reais { centavos: *adjustment };
-            let day_trade = Reais { centavos: *day_trade };
-            write!(text, "{account:>14}  {code}{adjustment:>15}{day_trade:>17}{due:>15}\n")?;
+            let code = Code {
+                month: month.number,
+            };
+            let adjustment = Reais {
+                centavos: *adjustment,
+            };
+            let day_trade = Reais {
+                centavos: *day_trade,
+            };
+            write!(
+                text,
+                "{account:>14}  {code}{adjustment:>15}{day_trade:>17}{due:>15}\n"
+            )?;
         }
     }
     Ok(())

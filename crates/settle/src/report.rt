@@ -106,7 +106,10 @@ impl Report<'_> {
         } = trade;
         let buys = outcome.sides.buyer;
         let sells = outcome.sides.seller;
-        write!(text, "{line:>4}  {buyer:>10}  {seller:>11}  {buys:>8}  {sells:>9}")?;
+        write!(
+            text,
+            "{line:>4}  {buyer:>10}  {seller:>11}  {buys:>8}  {sells:>9}"
+        )?;
         write!(text, "  {}", Code { month })?;
         match outcome.expiry {
             Some(day) => write!(text, "  {}", date(day))?,

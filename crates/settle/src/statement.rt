@@ -22,7 +22,10 @@ fn push_counts(text: &mut String, story: &Story) -> Result<(), AllocError> {
     let paid = story.paid;
     let trades = story.trade_count();
     write!(text, "\nstatement of book {number}\n")?;
-    write!(text, "sessions: {opened} opened, {closed} closed, {paid} paid\n")?;
+    write!(
+        text,
+        "sessions: {opened} opened, {closed} closed, {paid} paid\n"
+    )?;
     write!(text, "trades: {trades}\n")
 }
 
@@ -59,7 +62,10 @@ fn push_accounts(text: &mut String, story: &Story) -> Result<(), AllocError> {
         let due = Reais {
             centavos: balance.due,
         };
-        write!(text, "{index:>7}{client:>12}{participant:>13}{member:>12}{paid:>16}{due:>16}\n")?;
+        write!(
+            text,
+            "{index:>7}{client:>12}{participant:>13}{member:>12}{paid:>16}{due:>16}\n"
+        )?;
     }
     Ok(())
 }
@@ -90,7 +96,10 @@ fn push_check(
             let value = check.value;
             let apart = check.apart;
             let at_most = check.at_most;
-            write!(text, "{adjustments:>25}{value:>25}{apart:>17}{at_most:>17}\n")
+            write!(
+                text,
+                "{adjustments:>25}{value:>25}{apart:>17}{at_most:>17}\n"
+            )
         }
         None => write!(text, "{:>25}{:>25}{:>17}{:>17}\n", "-", "-", "-", "-"),
     }

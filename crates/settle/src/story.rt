@@ -163,4 +163,3 @@ impl Story {
         self.answers.iter().position(|answer| answer.is_refusal())
     }
 }
-

@@ -89,12 +89,7 @@ impl<'a> Teller<'a> {
     }
 
     // What the call of a line answered.
-    fn answer(
-        &mut self,
-        line: usize,
-        call: Call<'_>,
-        reply: Reply,
-    ) -> Result<Answer, AllocError> {
+    fn answer(&mut self, line: usize, call: Call<'_>, reply: Reply) -> Result<Answer, AllocError> {
         Ok(match reply {
             Reply::Entered(index) => self.entered(call, index)?,
             Reply::Listed(index) => self.listed(call, index)?,
