@@ -3,7 +3,7 @@ use Rattle.std.specs.Prelude.{◌≤◌, ◌*◌, ◌^◌, ℕ, cond, nat_le, Li
 use Rattle.std.specs.List.{slice_index_or}
 use Rattle.amounts.specs.declared.adjustments.MonthPrices.{MonthPrices}
 use Rattle.amounts.specs.declared.sums.SideSum.{SideSum}
-use Rattle.amounts.specs.declared.trades.TheConstants.{MAX_TRADES, MAX_CONTRACTS, MAX_POSITION}
+use Rattle.amounts.specs.declared.trades.TheConstants.{MAX_TRADES, MAX_CONTRACTS, MAX_POSITION_AT_CLOSE}
 use Rattle.amounts.specs.declared.trades.Trade.{Trade}
 use Rattle.amounts.specs.Amounts.{gain_of, adjustment_of, carried_in}
 use Rattle.amounts.specs.Tables.{place_of}
@@ -16,9 +16,9 @@ no_prices = record { settlement = 0; corrected = 0 }
 abbrev pub prices_of : List MonthPrices → ℕ → MonthPrices
 prices_of prices month = slice_index_or prices month no_prices
 
--- a position of at most 500,000 contracts, bought or sold; 0 for a greater one
+-- a position at the close of at most 5,620,000 contracts, bought or sold, which one carried of at most 500,000 can come to; 0 for a greater one
 abbrev pub within_limit : ℤ → ℤ
-within_limit position = cond (nat_le (unsigned_abs position) MAX_POSITION) position (pos 0)
+within_limit position = cond (nat_le (unsigned_abs position) MAX_POSITION_AT_CLOSE) position (pos 0)
 
 -- the position of an account in a month
 abbrev pub position_in : List ℤ → ℕ → ℕ → ℤ
