@@ -1,12 +1,13 @@
 -- The adjustment of an account in a month, from the sums of both sides.
-use Rattle.std.proofs.Common.{◌≡◌, ℕ, List, [], ◌∷◌, length, sum, ℤ, pos, ◌+ℤ◌, ◌-ℤ◌, ◌*ℤ◌, neg_ℤ, ap, ◌∙◌, arith}
+use Rattle.std.proofs.Common.{◌≡◌, ℕ, ◌≤◌, List, [], ◌∷◌, length, sum, ℤ, pos, ◌+ℤ◌, ◌-ℤ◌, ◌*ℤ◌, neg_ℤ, nat_abs, ap, ◌∙◌, arith}
+use Rattle.std.proofs.lemmas.Bool.Decides.{nat_tests}
 use Rattle.std.proofs.lemmas.Int.{ints}
 use Rattle.interest.proofs.Ring.{expands, sums}
 use Rattle.amounts.specs.Amounts.{gain_of, on_trades, adjustment_of, carried_in}
-use Rattle.amounts.specs.Closes.{IsBounded, adjustment_on}
+use Rattle.amounts.specs.Closes.{IsBounded, CarriedCounts, adjustment_on}
 use Rattle.amounts.specs.DayTrades.{contract_prices}
 use Rattle.amounts.specs.SideSums.{IsSideSum, AreSums}
-use Rattle.amounts.specs.Trades.{contracts_on, contracts_of}
+use Rattle.amounts.specs.Trades.{contracts_on, contracts_of, Limited}
 use Rattle.amounts.specs.declared.adjustments.MonthPrices.{MonthPrices}
 use Rattle.amounts.specs.declared.sums.SideSum.{SideSum}
 use Rattle.amounts.specs.declared.sums.Sums.{Sums}
@@ -39,6 +40,15 @@ pub adjustment-is : (a m : ℕ) (ts : List Trade) (bought sold : SideSum) (posit
 adjustment-is a m ts bought sold position p b s =
     let d = change-is a m ts in
     rw (b.contracts, s.contracts, b.value, s.value, d, trades-sums a m p.settlement ts)
+
+-- at most 500,000 contracts carried, and the trades
+pub carried-counts : (ts : List Trade) → Limited ts → CarriedCounts ts
+carried-counts ts l a m position few =
+    let b = few-contracts Bought a m ts l in
+    let s = few-contracts Sold a m ts l in
+    let d = change-is a m ts in
+    let most : nat_abs position ≤ 5620000 = omega (arith, ints) in
+    grind (arith, nat_tests)
 
 -- ---- in 64 bits
 
