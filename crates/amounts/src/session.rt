@@ -89,6 +89,7 @@ impl SessionTrades {
     /// Writes what a close settles, in centavos, and answers whether the arrays have room for it: the
     /// adjustments and the day-trade amounts. The row of account a starts at a × k, k being how many
     /// months have prices. The positions are those at the close, each at its `place`.
+    #[tactic(auto, using(crate::proofs::Adjusting::most_at_close, crate::proofs::Adjusting::counts_within))]
     pub fn write_amounts<'b>(
         &mut self,
         accounts: usize,
