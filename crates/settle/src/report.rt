@@ -80,7 +80,7 @@ impl Report<'_> {
     }
 
     // What a line comes to.
-    // The make is looked at once a line: at each day of a walk it took 1.85 times as long.
+    // The make is looked at once a line, not at each day of a walk.
     pub(crate) fn outcome(&self, trade: TradeLine) -> Outcome {
         match self.calendar {
             OfficeCalendar::Marked(marked) => self.outcome_on(marked, trade),
