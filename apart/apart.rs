@@ -65,7 +65,7 @@ const COMMANDS: [[&str; 2]; 8] = [
     ],
     [
         "settle correct OFFICE FROM TO PRICE",
-        "corrects a settlement price over the reserve days of a gap",
+        "carries a settlement price over the reserve days of a gap",
     ],
     ["settle sheet show FILE", "prints a sheet as text"],
     ["settle sheet make TEXTFILE FILE", "writes the sheet that a text describes"],

@@ -267,6 +267,40 @@ mkdir taken.bin.new
 run sheet make sheet.txt taken.bin
 ls | grep new
 rmdir taken.bin.new
+echo 'a file in the place of another'
+kept() { stat -c '%F %a' "$@"; }
+for length in 251 252 255 256; do
+  long=$(repeat $length x)
+  run sheet make sheet.txt $long
+  run sheet make sheet.txt ./$long
+  kept $long && rm $long
+done
+printf 'as it was' >private.bin
+chmod 600 private.bin
+run sheet make sheet.txt private.bin
+kept private.bin
+chmod 444 private.bin
+printf 'as it was' >other.bin
+ln -s "$PWD/other.bin" private.bin.new
+run sheet make sheet.txt private.bin
+kept private.bin
+untouched other.bin
+ln -s private.bin link.bin
+ln -s link.bin link-to-link.bin
+run sheet make sheet.txt link-to-link.bin
+kept link-to-link.bin link.bin private.bin
+bytes private.bin
+ln -s nowhere.bin link-to-nothing.bin
+run sheet make sheet.txt link-to-nothing.bin
+kept link-to-nothing.bin nowhere.bin
+ln -s round.bin round.bin
+run sheet make sheet.txt round.bin
+kept round.bin
+ln -s a-folder link-to-folder.bin
+run sheet make sheet.txt link-to-folder.bin
+kept link-to-folder.bin
+ls -A . a-folder | grep new
+rm private.bin* other.bin nowhere.bin link*.bin round.bin
 echo 'a file of 64 MiB, one more byte, and one that never ends'
 { printf 'calendar rule\n#'; head -c 67108849 /dev/zero; } >64.txt
 run prices 64.txt sheet.bin

@@ -16,7 +16,7 @@ pub(crate) const BAD_COMMAND_LINE: u8 = 2;
 const HELP: &str =
     "settle run [--strict] [--json] [--csv DIR] JOURNAL  replays a book from its journal, and says what each call answered
 settle prices [--json] [--csv DIR] OFFICE SHEET     prices every line of a sheet on the office's calendar
-settle correct OFFICE FROM TO PRICE                 corrects a settlement price over the reserve days of a gap
+settle correct OFFICE FROM TO PRICE                 carries a settlement price over the reserve days of a gap
 settle sheet show FILE                              prints a sheet as text
 settle sheet make TEXTFILE FILE                     writes the sheet that a text describes
 settle price RATE DAYS                              the price of a dealt rate over a number of reserve days
@@ -75,7 +75,7 @@ fn prices_command<'a>(heap: Global) -> Result<Command<'a>, Error> {
 fn correct_command<'a>(heap: Global) -> Result<Command<'a>, Error> {
     Ok(
         Command::new(heap, "correct")
-            .about("corrects a settlement price over the reserve days of a gap")
+            .about("carries a settlement price over the reserve days of a gap")
             .arg(word(heap, "OFFICE", "a calendar and rates"))?
             .arg(word(heap, "FROM", "the day of the price, a date like 2026-12-30"))?
             .arg(word(heap, "TO", "the day to which it is corrected"))?

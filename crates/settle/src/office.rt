@@ -64,6 +64,16 @@ pub(crate) enum Make {
     Rule,
 }
 
+impl Make {
+    // The same again, for an office that is made anew.
+    pub(crate) fn again(&self) -> Result<Make, AllocError> {
+        Ok(match self {
+            Make::Marked(marks) => Make::Marked(marks.clone()?),
+            Make::Rule => Make::Rule,
+        })
+    }
+}
+
 // What the lines have said so far.
 #[derive(Drop)]
 struct Draft {
@@ -155,10 +165,10 @@ impl Draft {
     }
 
     // The office that the lines have said; without a rates line it has no rates.
-    fn finish(self, heap: Global, make: &Make) -> Result<Office, AllocError> {
+    fn finish(self, heap: Global, make: Make) -> Result<Office, AllocError> {
         let Draft { exceptions, rates } = self;
         let calendar = match make {
-            Make::Marked(marks) => OfficeCalendar::Marked(MarkedCalendar::new(marks.clone()?)),
+            Make::Marked(marks) => OfficeCalendar::Marked(MarkedCalendar::new(marks)),
             Make::Rule => OfficeCalendar::Rule(RuleCalendar::new(heap, exceptions.as_slice())?),
         };
         let rates = rates.map_or_else(|| new_rates(heap, 0, 0), Ok)?;
@@ -167,10 +177,10 @@ impl Draft {
 }
 
 // The lines of an office in a file: its calendar line's, and the first words that others may have.
-#[derive(Clone, Copy)]
+#[derive(Drop)]
 pub(crate) struct OfficeLines<'a> {
     pub(crate) source: Source<'a>,
-    pub(crate) make: &'a Make,
+    pub(crate) make: Make,
     pub(crate) expected: &'static str,
 }
 
@@ -178,7 +188,7 @@ impl OfficeLines<'_> {
     // A line after the calendar line.
     fn take_line<'a>(&self, draft: &mut Draft, words: &[&'a str]) -> Result<(), Complaint<'a>> {
         match words {
-            ["exception", ..] => draft.take_exception(self.make, words),
+            ["exception", ..] => draft.take_exception(&self.make, words),
             ["rates", ..] => draft.take_rates(self.source.heap, words),
             ["rate", ..] => draft.publish(words),
             ["arbitrate", ..] => draft.arbitrate(words),
@@ -193,7 +203,7 @@ impl OfficeLines<'_> {
     }
 
     // The office that the calendar line and these lines after it say.
-    pub(crate) fn office(&self, lines: &[Line]) -> Result<Office, Failure> {
+    pub(crate) fn office(self, lines: &[Line]) -> Result<Office, Failure> {
         let heap = self.source.heap;
         let mut draft = Draft {
             exceptions: Vec::new(heap),
@@ -238,7 +248,7 @@ pub(crate) fn read_office(rt: &HostRuntime, file: &str) -> Result<Office, Failur
     let make = calendar_make(rt, &source, lines.as_slice())?;
     let office = OfficeLines {
         source,
-        make: &make,
+        make,
         expected: OFFICE_WORDS,
     };
     office.office(lines.get(1..).unwrap_or(&[]))

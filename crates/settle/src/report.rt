@@ -59,26 +59,43 @@ pub(crate) struct Report<'a> {
 }
 
 impl Report<'_> {
-    // What a line comes to.
-    pub(crate) fn outcome(&self, trade: TradeLine) -> Outcome {
+    // What a line comes to on a calendar.
+    fn outcome_on<C: Calendar>(&self, calendar: &C, trade: TradeLine) -> Outcome {
         let session = self.view.day();
-        let expiry = expiry(self.calendar, trade.month);
+        let expiry = expiry(calendar, trade.month);
         Outcome {
             expiry,
             days: expiry
                 .filter(|day| *day > session)
-                .map(|day| count_reserve_days(self.calendar, session, day)),
+                .map(|day| count_reserve_days(calendar, session, day)),
             sides: in_price(trade),
-            price: price_trade(self.calendar, session, trade).map(|priced| priced.price),
+            price: price_trade(calendar, session, trade).map(|priced| priced.price),
+        }
+    }
+
+    // The lines that are priced on a calendar.
+    fn priced_on<C: Calendar>(&self, calendar: &C) -> Tally {
+        let session = self.view.day();
+        add_up(&self.view, &OnCalendar { calendar, session })
+    }
+
+    // What a line comes to.
+    // The make is looked at once a line, not at each day of a walk.
+    pub(crate) fn outcome(&self, trade: TradeLine) -> Outcome {
+        match self.calendar {
+            OfficeCalendar::Marked(marked) => self.outcome_on(marked, trade),
+            OfficeCalendar::Rule(rule) => self.outcome_on(rule, trade),
         }
     }
 
     // All lines, and those that are priced.
     pub(crate) fn totals(&self) -> (Tally, Tally) {
-        let calendar = self.calendar;
-        let session = self.view.day();
         let all = add_up(&self.view, &AnyTrade);
-        (all, add_up(&self.view, &OnCalendar { calendar, session }))
+        let priced = match self.calendar {
+            OfficeCalendar::Marked(marked) => self.priced_on(marked),
+            OfficeCalendar::Rule(rule) => self.priced_on(rule),
+        };
+        (all, priced)
     }
 
     // The months that the sheet names, in order, each once.

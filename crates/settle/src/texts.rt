@@ -8,15 +8,20 @@ pub(crate) struct Line<'a> {
     pub(crate) words: Vec<&'a str>,
 }
 
+// Whether a line has no words, or is a note: then they are not collected.
+fn is_passed_over(line: &str) -> bool {
+    let rest = line.trim_start();
+    rest.is_empty() || rest.starts_with('#')
+}
+
 // The lines with words, but for notes, which begin with `#`.
 pub(crate) fn lines_of<'a>(heap: Global, text: &'a str) -> Result<Vec<Line<'a>>, AllocError> {
     let mut lines = Vec::new(heap);
     for (before, line) in text.lines().enumerate() {
-        let words: Vec<&'a str> = line.split_whitespace().collect(heap)?;
-        if words.first().is_some_and(|word| !word.starts_with('#')) {
+        if !is_passed_over(line) {
             lines.push(Line {
                 number: before.saturating_add(1),
-                words,
+                words: line.split_whitespace().collect(heap)?,
             })?;
         }
     }
