@@ -5,6 +5,7 @@ use crate::Numbers;
 pub(crate) const MAX_TRADES: usize = 256;
 pub(crate) const MAX_CONTRACTS: u32 = 20_000;
 pub(crate) const MAX_POSITION: u32 = 500_000;
+const MAX_POSITION_AT_CLOSE: u32 = MAX_POSITION + MAX_TRADES as u32 * MAX_CONTRACTS;
 pub(crate) const MAX_ACCOUNTS: usize = 32;
 pub(crate) const MAX_MONTHS: usize = 16;
 pub(crate) const CELLS: usize = MAX_ACCOUNTS * MAX_MONTHS;
@@ -58,7 +59,7 @@ fn take(cells: &mut [FirstContracts; CELLS], party: u8, trade: Trade) {
 }
 
 fn within_limit(position: i32) -> i32 {
-    if position.unsigned_abs() > MAX_POSITION {
+    if position.unsigned_abs() > MAX_POSITION_AT_CLOSE {
         return 0;
     }
     position

@@ -1,17 +1,19 @@
 -- The adjustment of an account in a month, from the sums of both sides.
-use Rattle.std.proofs.Common.{◌≡◌, ℕ, List, [], ◌∷◌, length, sum, ℤ, pos, ◌+ℤ◌, ◌-ℤ◌, ◌*ℤ◌, neg_ℤ, ap, ◌∙◌, arith}
+use Rattle.std.proofs.Common.{◌≡◌, ℕ, ◌≤◌, List, [], ◌∷◌, length, sum, ℤ, pos, ◌+ℤ◌, ◌-ℤ◌, ◌*ℤ◌, neg_ℤ, nat_abs, ap, ◌∙◌, arith}
+use Rattle.std.proofs.lemmas.Bool.Decides.{nat_tests}
 use Rattle.std.proofs.lemmas.Int.{ints}
 use Rattle.interest.proofs.Ring.{expands, sums}
 use Rattle.amounts.specs.Amounts.{gain_of, on_trades, adjustment_of, carried_in}
-use Rattle.amounts.specs.Closes.{IsBounded, adjustment_on}
+use Rattle.amounts.specs.Closes.{IsBounded, within_limit, adjustment_on}
 use Rattle.amounts.specs.DayTrades.{contract_prices}
 use Rattle.amounts.specs.SideSums.{IsSideSum, AreSums}
-use Rattle.amounts.specs.Trades.{contracts_on, contracts_of}
+use Rattle.amounts.specs.Trades.{contracts_on, contracts_of, Limited}
 use Rattle.amounts.specs.declared.adjustments.MonthPrices.{MonthPrices}
 use Rattle.amounts.specs.declared.sums.SideSum.{SideSum}
 use Rattle.amounts.specs.declared.sums.Sums.{Sums}
 use Rattle.amounts.specs.declared.trades.Side.{Side}
 use Rattle.amounts.specs.declared.trades.Side.TheVariants.{Bought, Sold}
+use Rattle.amounts.specs.declared.trades.TheConstants.{MAX_POSITION_AT_CLOSE}
 use Rattle.amounts.specs.declared.trades.Trade.{Trade}
 use Rattle.amounts.proofs.ContractPrices.{length-first, sum-first, change-is, few-contracts, value-size}
 
@@ -39,6 +41,16 @@ pub adjustment-is : (a m : ℕ) (ts : List Trade) (bought sold : SideSum) (posit
 adjustment-is a m ts bought sold position p b s =
     let d = change-is a m ts in
     rw (b.contracts, s.contracts, b.value, s.value, d, trades-sums a m p.settlement ts)
+
+-- ---- a position at the close
+
+-- at most 500,000 contracts carried, and what the trades change
+pub most_at_close : (ts : List Trade) → Limited ts → (a m : ℕ) (position : ℤ) → nat_abs (carried_in a m ts position) ≤ 500000 → nat_abs position ≤ 5620000
+most_at_close ts l a m position few =
+    omega (arith, ints, few-contracts Bought a m ts l, few-contracts Sold a m ts l, change-is a m ts)
+
+pub counts_within : (position : ℤ) → nat_abs position ≤ MAX_POSITION_AT_CLOSE → within_limit position ≡ position
+counts_within position few = grind (arith, nat_tests)
 
 -- ---- in 64 bits
 

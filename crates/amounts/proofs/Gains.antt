@@ -11,7 +11,7 @@ gain-size z a b h k =
     let d : nat_abs (pos a -ℤ pos b) ≤ 4294967296 = omega (arith, ints) in
     omega (arith, abs-mul z (pos a -ℤ pos b), mul-le-mul_left (nat_abs z) d)
 
-module _ (z : ℤ) (a b : ℕ) (small : nat_abs z ≤ 5620000) (h : a < 2 ^ 32) (k : b < 2 ^ 32) where
+module _ (z : ℤ) (a b : ℕ) (small : nat_abs z ≤ 10740000) (h : a < 2 ^ 32) (k : b < 2 ^ 32) where
   gain-fits : SFits w64 (gain_of z a b)
   gain-fits = let s = gain-size z a b h k in omega (arith, ints)
 

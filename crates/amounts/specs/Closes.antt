@@ -1,9 +1,9 @@
 -- The adjustments of a close, on the prices of the months and the positions that it is given.
-use Rattle.std.specs.Prelude.{◌≤◌, ◌*◌, ◌^◌, ℕ, cond, nat_le, List, ℤ, pos, ◌+ℤ◌, ◌-ℤ◌, ◌*ℤ◌, unsigned_abs}
+use Rattle.std.specs.Prelude.{◌≡◌, ◌≤◌, ◌*◌, ◌^◌, ℕ, cond, nat_le, List, ℤ, pos, ◌+ℤ◌, ◌-ℤ◌, ◌*ℤ◌, unsigned_abs}
 use Rattle.std.specs.List.{slice_index_or}
 use Rattle.amounts.specs.declared.adjustments.MonthPrices.{MonthPrices}
 use Rattle.amounts.specs.declared.sums.SideSum.{SideSum}
-use Rattle.amounts.specs.declared.trades.TheConstants.{MAX_TRADES, MAX_CONTRACTS, MAX_POSITION}
+use Rattle.amounts.specs.declared.trades.TheConstants.{MAX_TRADES, MAX_CONTRACTS, MAX_POSITION, MAX_POSITION_AT_CLOSE}
 use Rattle.amounts.specs.declared.trades.Trade.{Trade}
 use Rattle.amounts.specs.Amounts.{gain_of, adjustment_of, carried_in}
 use Rattle.amounts.specs.Tables.{place_of}
@@ -16,9 +16,13 @@ no_prices = record { settlement = 0; corrected = 0 }
 abbrev pub prices_of : List MonthPrices → ℕ → MonthPrices
 prices_of prices month = slice_index_or prices month no_prices
 
--- a position of at most 500,000 contracts, bought or sold; 0 for a greater one
+-- a position at the close of at most 5,620,000 contracts, bought or sold, to which a session can bring one of 500,000; 0 for a greater one
 abbrev pub within_limit : ℤ → ℤ
-within_limit position = cond (nat_le (unsigned_abs position) MAX_POSITION) position (pos 0)
+within_limit position = cond (nat_le (unsigned_abs position) MAX_POSITION_AT_CLOSE) position (pos 0)
+
+-- so where at most 500,000 contracts are carried into a session of these trades, bought or sold, the position at its close counts as it is
+abbrev pub CarriedCounts : List Trade → Type 0
+CarriedCounts ts = (account month : ℕ) (position : ℤ) → unsigned_abs (carried_in account month ts position) ≤ MAX_POSITION → within_limit position ≡ position
 
 -- the position of an account in a month
 abbrev pub position_in : List ℤ → ℕ → ℕ → ℤ

@@ -7,7 +7,7 @@ ghost use Rattle.amounts.specs.SideSums.{AreSums};
 
 use crate::rows::Amounts;
 use crate::sums::{SideSum, Sums, place};
-use crate::trades::{MAX_CONTRACTS, MAX_POSITION, MAX_TRADES, Trade};
+use crate::trades::{MAX_CONTRACTS, MAX_POSITION_AT_CLOSE, MAX_TRADES, Trade};
 
 /// The prices of a month at a close, in centavos: the settlement price, and the latest one before
 /// it, corrected to the session.
@@ -54,9 +54,9 @@ fn at_price(contracts: i64, price: u32) -> i64
 
 // What contracts gain from one price to another.
 fn gain(contracts: i64, price: u32, before: u32) -> i64
-    requires { unsigned_abs contracts ≤ MAX_POSITION + MAX_TRADES * MAX_CONTRACTS }
+    requires { unsigned_abs contracts ≤ MAX_POSITION_AT_CLOSE + MAX_TRADES * MAX_CONTRACTS }
     ensures value { result ≡ gain_of contracts price before }
-    ensures most { unsigned_abs result ≤ (MAX_POSITION + MAX_TRADES * MAX_CONTRACTS) * 2 ^ 32 }
+    ensures most { unsigned_abs result ≤ (MAX_POSITION_AT_CLOSE + MAX_TRADES * MAX_CONTRACTS) * 2 ^ 32 }
 {
     contracts * (price as i64 - before as i64)
 }
@@ -75,9 +75,9 @@ fn on_trades(bought: SideSum, sold: SideSum, settlement: u32) -> i64
 fn carried(bought: SideSum, sold: SideSum, position: i32) -> i64
     requires bought { IsBounded bought }
     requires sold { IsBounded sold }
-    requires position { unsigned_abs position ≤ MAX_POSITION }
+    requires position { unsigned_abs position ≤ MAX_POSITION_AT_CLOSE }
     ensures value { result ≡ position -ℤ change_on bought sold }
-    ensures most { unsigned_abs result ≤ MAX_POSITION + MAX_TRADES * MAX_CONTRACTS }
+    ensures most { unsigned_abs result ≤ MAX_POSITION_AT_CLOSE + MAX_TRADES * MAX_CONTRACTS }
 {
     position as i64 - change(bought, sold)
 }
@@ -86,9 +86,9 @@ fn carried(bought: SideSum, sold: SideSum, position: i32) -> i64
 fn on_carried(bought: SideSum, sold: SideSum, position: i32, prices: MonthPrices) -> i64
     requires bought { IsBounded bought }
     requires sold { IsBounded sold }
-    requires position { unsigned_abs position ≤ MAX_POSITION }
+    requires position { unsigned_abs position ≤ MAX_POSITION_AT_CLOSE }
     ensures value { result ≡ gain_of (position -ℤ change_on bought sold) prices.settlement prices.corrected }
-    ensures most { unsigned_abs result ≤ (MAX_POSITION + MAX_TRADES * MAX_CONTRACTS) * 2 ^ 32 }
+    ensures most { unsigned_abs result ≤ (MAX_POSITION_AT_CLOSE + MAX_TRADES * MAX_CONTRACTS) * 2 ^ 32 }
 {
     let held = carried(bought, sold, position);
     gain(held, prices.settlement, prices.corrected)
@@ -98,7 +98,7 @@ fn on_carried(bought: SideSum, sold: SideSum, position: i32, prices: MonthPrices
 fn adjustment(bought: SideSum, sold: SideSum, position: i32, prices: MonthPrices) -> i64
     requires bought { IsBounded bought }
     requires sold { IsBounded sold }
-    requires position { unsigned_abs position ≤ MAX_POSITION }
+    requires position { unsigned_abs position ≤ MAX_POSITION_AT_CLOSE }
     ensures { result ≡ adjustment_on bought sold position prices }
 {
     on_trades(bought, sold, prices.settlement) + on_carried(bought, sold, position, prices)
@@ -107,9 +107,9 @@ fn adjustment(bought: SideSum, sold: SideSum, position: i32, prices: MonthPrices
 // A position within the limit, 0 for one past it.
 fn within_limit(position: i32) -> i32
     ensures value { result ≡ within_limit position }
-    ensures most { unsigned_abs result ≤ MAX_POSITION }
+    ensures most { unsigned_abs result ≤ MAX_POSITION_AT_CLOSE }
 {
-    if position.unsigned_abs() > MAX_POSITION {
+    if position.unsigned_abs() > MAX_POSITION_AT_CLOSE {
         return 0;
     }
     position
@@ -118,7 +118,7 @@ fn within_limit(position: i32) -> i32
 // The position of an account in a month.
 fn position_in(positions: &[i32], account: u8, month: u8) -> i32
     ensures value { result ≡ position_in positions.now account month }
-    ensures most { unsigned_abs result ≤ MAX_POSITION }
+    ensures most { unsigned_abs result ≤ MAX_POSITION_AT_CLOSE }
 {
     let at = place(account, month);
     within_limit(positions.get(at).copied().unwrap_or(0))

@@ -1,6 +1,6 @@
 // The trades of a session, with their running sums.
 ghost use Rattle.std.specs.Prelude.{◌≡◌, ◌<◌, [], ◌∷◌, ◌++◌, length, nat_le, IsTrue, ◌↔◌, if◌then◌else◌};
-ghost use Rattle.amounts.specs.Closes.{adjustment_in};
+ghost use Rattle.amounts.specs.Closes.{adjustment_in, CarriedCounts};
 ghost use Rattle.amounts.specs.DayTrades.{day_trade};
 ghost use Rattle.amounts.specs.Rows.{HasRoom, RowsStand, written_to};
 ghost use Rattle.amounts.specs.Trades.{FitsTables};
@@ -89,6 +89,7 @@ impl SessionTrades {
     /// Writes what a close settles, in centavos, and answers whether the arrays have room for it: the
     /// adjustments and the day-trade amounts. The row of account a starts at a × k, k being how many
     /// months have prices. The positions are those at the close, each at its `place`.
+    #[tactic(auto, using(crate::proofs::Adjusting::most_at_close, crate::proofs::Adjusting::counts_within))]
     pub fn write_amounts<'b>(
         &mut self,
         accounts: usize,
@@ -100,6 +101,9 @@ impl SessionTrades {
         ensures room { IsTrue result ↔ (HasRoom accounts (length prices.now) (length adjustments.old) × HasRoom accounts (length prices.now) (length day_trades.old)) }
         ensures adjusted { adjustments.new ≡ (if result then written_to accounts (length prices.now) (adjustment_in self.old prices.now positions.now) adjustments.old else adjustments.old) }
         ensures day_traded { day_trades.new ≡ (if result then written_to accounts (length prices.now) (λ a m. day_trade a m self.old) day_trades.old else day_trades.old) }
+
+        // Where at most 500,000 contracts are carried, the position at the close counts as it is.
+        ensures carried { IsTrue result → CarriedCounts self.old }
 
         // Whatever is written by rows stands at its place.
         ensures placed { RowsStand }

@@ -75,3 +75,24 @@ fn full_session(rt: HostRuntime) {
     let all = adjustments(&mut session, 3, 3, (-500_000, 500_000));
     assert_eq!(rt; all, [-10_240_000, 10_240_000, 7]);
 }
+
+#[test]
+fn most_carried(rt: HostRuntime) {
+    let mut session = SessionTrades::new();
+    assert!(rt; session.accept(trade(0, 1, 10, 9_992_439)));
+    let both = adjustments(&mut session, 1, 0, (-500_010, 500_010));
+    assert_eq!(rt; both, [99_424_380, -99_424_380, 7]);
+}
+
+#[test]
+fn nothing_carried_to_a_full_session(rt: HostRuntime) {
+    let mut session = SessionTrades::new();
+    let largest = trade(0, 1, MAX_CONTRACTS, 1);
+    for _ in 0..MAX_TRADES {
+        assert!(rt; session.accept(largest));
+    }
+    let all = adjustments(&mut session, 3, 0, (-5_120_000, 5_120_000));
+    assert_eq!(rt; all, [-10_240_000, 10_240_000, 7]);
+    let past = adjustments(&mut session, 3, 0, (-5_620_001, 5_620_001));
+    assert_eq!(rt; past, [5_120_000, -5_120_000, 7]);
+}

@@ -11,6 +11,9 @@ pub const MAX_CONTRACTS: u32 = 20_000;
 /// The most contracts of a position, bought or sold.
 pub const MAX_POSITION: u32 = 500_000;
 
+// The most contracts of a position at a close: those that the session began with, and its trades'.
+pub(crate) const MAX_POSITION_AT_CLOSE: u32 = MAX_POSITION + MAX_TRADES as u32 * MAX_CONTRACTS;
+
 /// The most accounts of a book.
 pub const MAX_ACCOUNTS: usize = 32;
 

@@ -79,7 +79,7 @@ count-more t k from day h =
     one true = refl
     one false = refl
 
-session-none : (k : ℕ → DayKind) (from to : ℕ) → to ≤ from → first_session k from to ≡ None
+pub session-none : (k : ℕ → DayKind) (from to : ℕ) → to ≤ from → first_session k from to ≡ None
 session-none k from to h = ap first_in (days-none is_session k from to h)
 
 -- past the end of the calendar no day passes

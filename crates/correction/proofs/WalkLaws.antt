@@ -11,6 +11,7 @@ use Rattle.calendar.specs.Spans.{reserve_days, first_in, days_by}
 use Rattle.calendar.proofs.Spans.{days-none, days-more, days-split, days-head, days-end, past-last}
 use Rattle.interest.specs.Correction.{corrected, corrected_day}
 use Rattle.interest.proofs.Corrections.{corrected-none, corrected-more}
+use Rattle.correction.specs.declared.gap.TheConstants.{MAX_GAP_DAYS}
 use Rattle.correction.specs.Gaps.{factor_on, factors, is_unrated, first_unrated, corrected_price, corrected_prices}
 use Rattle.correction.specs.Walks.{CorrectedTo}
 
@@ -134,7 +135,7 @@ fewer kinds from day to h l =
 
 -- prices on the way stay small enough for one day more
 pub small : (kinds : ℕ → DayKind) → ((d : ℕ) → 36524 < d → kinds d ≡ ClosedDay) → (rates : ℕ → Option ℕ) (from to end day : ℕ) (prices now : List ℕ) → end ≡ min to 36525
-    → length (reserve_days kinds from to) ≤ 252 → from ≤ day → day < end → CorrectedTo kinds rates from day prices now → (i : ℕ) → get_or now i 0 ≤ 90000000000
+    → length (reserve_days kinds from to) ≤ MAX_GAP_DAYS → from ≤ day → day < end → CorrectedTo kinds rates from day prices now → (i : ℕ) → get_or now i 0 ≤ 90000000000
 small kinds ends rates from to end day prices now e few h l c i =
     let w = ap length (whole kinds ends from to end e) in
     let f = fewer kinds from day end h (omega arith) in

@@ -39,6 +39,7 @@ pub fn correct<C: Calendar, S: RateSource>(
 ) -> Result<u64, Uncorrected>
     ensures fault { result_err result ≡ gap_fault (C.kinds calendar.now) (rates_of (S.meaning source.now)) gap.from gap.to }
     ensures value { IfOk result (λ p. p ≡ corrected_price (C.kinds calendar.now) (rates_of (S.meaning source.now)) gap.from gap.to gap.price) }
+    ensures limit { MAX_GAP_DAYS ≡ 252 }
 {
     let [price] = correct_prices(calendar, source, gap.from, gap.to, [gap.price])?;
     Ok(price)

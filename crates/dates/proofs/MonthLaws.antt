@@ -146,3 +146,12 @@ month-is d m from to h =
 pub month-found : (d m : ℕ) → d ≤ 36524 → Holds m d
     → (month_of d ≡ m) × (m ≤ 1199) × (d < first_day m + month_length m)
 month-found d m h o = (month-by d m h o, omega (arith, month-by d m h o, month-holds d h), omega (arith, first-day-suc m))
+
+-- a later day has no earlier month
+pub month-grows : (d e : ℕ) → d ≤ e → month_of d ≤ month_of e
+unfolding month_of begun_months
+month-grows d e h = by 1199
+  where
+    by : (k : ℕ) → begun_months k d ≤ begun_months k e
+    by zero = omega arith
+    by (suc k) = let i = by k in grind (arith, nat_tests)

@@ -1,10 +1,11 @@
 -- Which numbers the rows of each call have, in order: a call meets these rows and no others.
 use Rattle.std.specs.Prelude.{◌≡◌, ℕ, List, [], ◌∷◌, map}
 use Rattle.rates.specs.declared.entry.DayRate.{DayRate}
-use Rattle.rows.specs.Rows.{Row}
+use Rattle.rows.specs.Rows.{Row, reasons_of}
 use Rattle.sheet.specs.Faults.{fault_reason, write_reason}
 use Rattle.sheet.specs.declared.fault.SheetFault.{SheetFault}
-use Rattle.sheet.specs.declared.fault.WriteFault.TheVariants.{Short, BadSheet}
+use Rattle.sheet.specs.declared.trade_line.TradeLine.{TradeLine}
+use Rattle.sheet.specs.Sheet.{write_rows}
 use Rattle.model.specs.declared.calls.Account.{Account}
 use Rattle.model.specs.declared.calls.Order.{Order}
 use Rattle.model.specs.History.{History}
@@ -31,4 +32,4 @@ pub record RowsNumbered : Type 0 where
   pub balance : (h : History) (a : ℕ) → row_numbers (balance_rows h a) ≡ 2 ∷ []
   -- the faults of a sheet that is read, and of one that is written
   pub import_sheet : (fault : SheetFault) → (fault_reason fault).number ≡ 26
-  pub write_sheet : map (λ fault. (write_reason fault).number) (Short ∷ BadSheet ∷ []) ≡ 16 ∷ 26 ∷ []
+  pub write_sheet : (room : ℕ) (lines : List TradeLine) → row_numbers (reasons_of write_reason (write_rows room lines)) ≡ 16 ∷ 26 ∷ []

@@ -1,5 +1,5 @@
 -- The price of a trade on a calendar, and the causes for which it has none.
-use Rattle.std.specs.Prelude.{ℕ, ◌-◌, Bool, not, List, [], ◌∷◌, codes, length, is_some, Option, nat_le, nat_lt}
+use Rattle.std.specs.Prelude.{ℕ, ◌-◌, Bool, not, List, [], ◌∷◌, codes, length, is_some, Some, None, Option, nat_le, nat_lt}
 use Rattle.std.specs.Option.{unwrap_or}
 use Rattle.dates.specs.Months.{month_of}
 use Rattle.calendar.specs.declared.kind.DayKind.{DayKind}
@@ -9,7 +9,7 @@ use Rattle.interest.specs.declared.prices.Unpriceable.{Unpriceable}
 use Rattle.interest.specs.declared.prices.Unpriceable.TheVariants as prices
 use Rattle.interest.specs.Price.{trade_price}
 use Rattle.interest.specs.Tick.{on_tick}
-use Rattle.rows.specs.Rows.{first_row}
+use Rattle.rows.specs.Rows.{Reason, numbered, first_row}
 use Rattle.sheet.specs.declared.trade_line.TradeLine.{TradeLine}
 use Rattle.pricing.specs.declared.trades.Cause.{Cause}
 use Rattle.pricing.specs.declared.trades.Cause.TheVariants.{NoSession, Expired, RateTooHigh, OffTick, TooFar}
@@ -64,6 +64,14 @@ priced_trade kinds session trade = record {
 abbrev pub unpriceable_cause : Unpriceable → Cause
 unpriceable_cause prices.RateTooHigh = RateTooHigh
 unpriceable_cause prices.TooFar = TooFar
+
+-- the number of each cause; a month without any session has none
+abbrev pub cause_reason : Cause → Option Reason
+cause_reason NoSession = None
+cause_reason Expired = Some (numbered 3)
+cause_reason RateTooHigh = Some (numbered 6)
+cause_reason OffTick = Some (numbered 6)
+cause_reason TooFar = Some (numbered 7)
 
 -- the words of each cause
 abbrev pub message : Cause → List ℕ

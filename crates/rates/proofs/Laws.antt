@@ -1,5 +1,5 @@
 -- What callers conclude from a publication or an arbitration.
-use Rattle.std.proofs.Common.{◌≡◌, ℕ, true, false, cond, List, ◌++◌, Some, None, Ok, Err, Option, Result, refl, ap, ◌∙◌, arith}
+use Rattle.std.proofs.Common.{◌≡◌, ℕ, true, false, cond, List, [], ◌++◌, Some, None, Ok, Err, Option, Result, refl, ap, ◌∙◌, arith}
 use Rattle.std.proofs.lemmas.Bool.Decides.{nat_tests}
 use Rattle.rows.specs.Rows.{Row, first_row}
 use Rattle.rates.specs.declared.entry.DayRate.{DayRate}
@@ -13,6 +13,10 @@ use Rattle.rates.specs.Publishing.{day_rows, term_rows, keep_rows, Sets, Publica
 pub rates-under : (m : Meaning) (days : List DayRate) (d : ℕ)
     → rates_of (under days m) d ≡ cond (inside m.horizon d) (or_else (rates_of m d) (arbitrated_rate days d)) None
 rates-under m days d = grind arith
+
+-- without arbitrated days the source below decides
+pub layer_none : (m : Meaning) (days : List DayRate) (d : ℕ) → days ≡ [] → rates_of (under days m) d ≡ rates_of m d
+layer_none m days d none = grind (arith, nat_tests)
 
 -- no day outside the horizon has a rate
 pub rates-outside : (m : Meaning) (d : ℕ) → inside m.horizon d ≡ false → rates_of m d ≡ None

@@ -1,11 +1,17 @@
 // Why a call is refused: one cause for the whole project, with its number and a message.
 #![tactic(auto)]
 
-ghost use Rattle.std.specs.Prelude.{◌≡◌, Some};
+ghost use Rattle.std.specs.Prelude.{◌≡◌, Some, Option};
+ghost use Rattle.std.specs.Option.{option_map};
+ghost use Rattle.rows.specs.Rows.{Reason};
 ghost use Rattle.rates.specs.Errors as rate_errors;
 ghost use Rattle.sheet.specs.Faults.{fault_reason, write_reason};
+ghost use Rattle.correction.specs.Errors.{uncorrected_reason};
+ghost use Rattle.pricing.specs.Pricing.{cause_reason};
 ghost use Rattle.refusal.specs.Refusals.{reason_of, cause, message};
 
+use correction::Uncorrected;
+use pricing::Cause;
 use rates::error::Error;
 use sheet::{SheetFault, WriteFault};
 use std::fmt;
@@ -168,6 +174,42 @@ impl From<WriteFault> for Refusal {
     }
 }
 
+/// A cause of an enum of its own, which has a number of the list or none.
+// Kept: a TryFrom would need an error type that says no more than None.
+pub trait AsRefusal {
+    ghost reason: { Self → Option Reason };
+
+    /// The refusal that the cause is; none where it has no number.
+    fn refusal(self) -> Option<Refusal>
+        ensures { option_map reason_of result ≡ reason self };
+}
+
+/// A price that is not corrected, for want of a day's rate; a gap that is too long has no number.
+impl AsRefusal for Uncorrected {
+    ghost reason = { uncorrected_reason };
+
+    fn refusal(self) -> Option<Refusal> {
+        match self {
+            Uncorrected::TooLong => None,
+            Uncorrected::MissingRate(day) => Some(Refusal::MissingRate(day)),
+        }
+    }
+}
+
+/// A line of a sheet that is not priced; a month without any session has no number.
+impl AsRefusal for Cause {
+    ghost reason = { cause_reason };
+
+    fn refusal(self) -> Option<Refusal> {
+        match self {
+            Cause::NoSession => None,
+            Cause::Expired => Some(Refusal::Expired),
+            Cause::RateTooHigh | Cause::OffTick => Some(Refusal::BadRate),
+            Cause::TooFar => Some(Refusal::TooFar),
+        }
+    }
+}
+
 #[cfg(test)]
 mod tests {
     use super::*;
@@ -182,6 +224,16 @@ mod tests {
             Refusal::BadSheet
         )?;
         assert!(rt; text.as_str() == "15: reserve day without a rate: day 9862; bad sheet");
+        Ok(())
+    }
+
+    #[test]
+    fn causes(rt: HostRuntime) -> Result<(), Fail> {
+        assert_eq!(rt; Cause::OffTick.refusal(), Some(Refusal::BadRate));
+        assert_eq!(rt; Cause::NoSession.refusal(), None);
+        let missing = Uncorrected::MissingRate(9_862);
+        assert_eq!(rt; missing.refusal(), Some(Refusal::MissingRate(9_862)));
+        assert_eq!(rt; Uncorrected::TooLong.refusal(), None);
         Ok(())
     }
 }

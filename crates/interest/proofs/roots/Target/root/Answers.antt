@@ -1,7 +1,7 @@
 use Rattle.std.proofs.Common.{◌+◌, ◌<◌, ◌≤◌, arith}
 use Rattle.interest.specs.Power.{power_of, root_of}
 use Rattle.interest.proofs.Growth.{power-least}
-use Rattle.interest.proofs.RootLaws.{root_by, root-unique, root-least, root-most, below-root, above-root}
+use Rattle.interest.proofs.RootLaws.{root_by, root-computed, root-least, root-most, below-root, above-root}
 use Rattle.interest.proofs.roots.Target.root.Goals as goal
 use Rattle.interest.proofs.roots.Target.root.Goals.{In-Less, In-Greater}
 
@@ -38,7 +38,7 @@ returns-in-Equal-clause-root c =
     root_by t f c.loop-factor.invariant.0 u o
 
 pub returns-in-Equal-clause-value : goal.returns-in-Equal-clause-value
-returns-in-Equal-clause-value c = root-unique c.args.self.value c.loop-factor.factor c.args.self.range (returns-in-Equal-clause-root c)
+returns-in-Equal-clause-value c = root-computed c.args.self.value c.loop-factor.factor c.args.self.range (returns-in-Equal-clause-root c)
 
 pub returns-in-Equal-clause-least : goal.returns-in-Equal-clause-least
 returns-in-Equal-clause-least c =
