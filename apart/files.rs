@@ -46,7 +46,9 @@ fn new_name(name: &str) -> String {
 fn write_new(new: &str, permissions: Option<Permissions>, bytes: &[u8]) -> io::Result<()> {
     let mut file = File::create_new(new)?;
     if let Some(permissions) = permissions {
-        file.set_permissions(permissions)?;
+        if file.metadata()?.permissions() != permissions {
+            file.set_permissions(permissions)?;
+        }
     }
     file.write_all(bytes)
 }
@@ -76,7 +78,7 @@ pub fn write_file(name: &str, bytes: &[u8]) -> Result<(), String> {
     let there = fs::metadata(name).ok();
     let is_link = fs::symlink_metadata(name).is_ok_and(|own| own.is_symlink());
     let target = if is_link { end_of_link(name) } else { Some(name.to_string()) };
-    let is_plain = there.as_ref().is_none_or(|there| there.is_file());
+    let is_plain = !name.is_empty() && there.as_ref().is_none_or(|there| there.is_file());
     let written = match target {
         Some(target) if is_plain => {
             replace(&target, there.map(|there| there.permissions()), bytes)

@@ -1,4 +1,5 @@
 pub mod Kinds
 pub mod MarkedCalendars
 pub mod RuleCalendars
+pub mod RuleDays
 pub mod Spans

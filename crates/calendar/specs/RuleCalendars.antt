@@ -1,9 +1,8 @@
--- What the week and a list of exceptions say of a day, and what a rule calendar means.
-use Rattle.std.specs.Prelude.{◌≡◌, ℕ, ◌%◌, ◌<◌, cond, List, [], ◌∷◌, length, ◌==◌, nat_lt, vec_items, slice_index_or}
+-- What the week and a list of exceptions say of a day.
+use Rattle.std.specs.Prelude.{◌≡◌, ℕ, ◌%◌, ◌<◌, cond, List, [], ◌∷◌, length, ◌==◌, nat_lt, slice_index_or}
 use Rattle.calendar.specs.declared.kind.DayKind.{DayKind}
 use Rattle.calendar.specs.declared.kind.DayKind.TheVariants.{ClosedDay, SessionDay}
 use Rattle.calendar.specs.declared.rule.Exception.{Exception}
-use Rattle.calendar.specs.declared.rule.RuleCalendar.{RuleCalendar}
 use Rattle.calendar.specs.Kinds.{kind_to_last}
 
 -- day 0 is a Saturday; Monday to Friday are sessions
@@ -18,10 +17,6 @@ kind_with_exceptions (e ∷ es) d = cond (e.day == d) e.kind (kind_with_exceptio
 -- what a rule calendar of these exceptions means
 abbrev pub kinds_of_exceptions : List Exception → ℕ → DayKind
 kinds_of_exceptions es d = kind_to_last d (kind_with_exceptions es d)
-
--- the kind that it holds for the day
-abbrev pub rule_kinds : RuleCalendar → ℕ → DayKind
-rule_kinds c d = kind_to_last d (slice_index_or (vec_items c.days) d ClosedDay)
 
 -- a list has the kind of each day below n
 abbrev pub ListsKinds : (ℕ → DayKind) → List DayKind → ℕ → Type 0

@@ -1,8 +1,9 @@
 //! The rule calendar: Monday to Friday are sessions but for a list of exceptions.
-ghost use Rattle.std.specs.Prelude.{◌≡◌, ℕ, ◌+◌, List, ◌∷◌, IfOk};
+ghost use Rattle.std.specs.Prelude.{◌≡◌, ℕ, ◌+◌, List, ◌∷◌, vec_len, IfOk};
+ghost use Rattle.dates.specs.declared.TheConstants.{LAST_DAY};
 ghost use Rattle.calendar.specs.declared.rule.Exception.{Exception};
 ghost use Rattle.calendar.specs.Kinds.{kind_of_mark};
-ghost use Rattle.calendar.specs.RuleCalendars.{week_kind, kind_with_exceptions, kinds_of_exceptions, rule_kinds, ListsKinds};
+ghost use Rattle.calendar.specs.RuleCalendars.{week_kind, kind_with_exceptions, kinds_of_exceptions, ListsKinds};
 ghost use Rattle.std.proofs.Common.{rules};
 
 use crate::kind::{Calendar, DayKind};
@@ -34,6 +35,7 @@ impl Exception {
 #[derive(Drop)]
 pub struct RuleCalendar {
     days: Vec<DayKind>,
+    ghost whole: { vec_len days ≡ LAST_DAY + 1 },
 }
 
 // The kind of a day without an exception.
@@ -63,6 +65,8 @@ fn enter(days: &mut Vec<DayKind>, exception: Exception)
 }
 
 impl RuleCalendar {
+    ghost use Rattle.calendar.specs.RuleDays.{rule_kinds};
+
     /// The calendar of these exceptions; entries past the last day mean nothing.
     // From the last entry to the first, so that the first entry for a day decides.
     pub fn new(heap: Global, exceptions: &[Exception]) -> Result<RuleCalendar, AllocError>
@@ -77,14 +81,13 @@ impl RuleCalendar {
 }
 
 impl Calendar for RuleCalendar {
+    ghost use Rattle.calendar.specs.RuleDays.{rule_kinds};
+
     ghost kinds = { rule_kinds };
 
     ghost ends = { Prim.search rules };
 
     fn kind(&self, day: u32) -> DayKind {
-        if day > LAST_DAY {
-            return DayKind::ClosedDay;
-        }
         self.days
             .get(day as usize)
             .copied()

@@ -2,7 +2,7 @@
 use Rattle.std.specs.Prelude.{ℕ}
 use Rattle.calendar.specs.declared.kind.DayKind.{DayKind}
 use Rattle.calendar.specs.MarkedCalendars.{marked_kinds}
-use Rattle.calendar.specs.RuleCalendars.{rule_kinds}
+use Rattle.calendar.specs.RuleDays.{rule_kinds}
 use Rattle.settle.specs.declared.office.OfficeCalendar.{OfficeCalendar}
 use Rattle.settle.specs.declared.office.OfficeCalendar.TheVariants.{Marked, Rule}
 

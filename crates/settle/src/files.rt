@@ -54,7 +54,9 @@ fn write_new(
 ) -> io::Result<()> {
     let mut file = File::create_new(rt, new)?;
     if let Some(permissions) = permissions {
-        file.set_permissions(permissions)?;
+        if file.metadata()?.permissions() != permissions {
+            file.set_permissions(permissions)?;
+        }
     }
     file.write_all(bytes)
 }
@@ -95,7 +97,7 @@ pub(crate) fn write_whole<'a>(
     bytes: &[u8],
 ) -> Result<(), Complaint<'a>> {
     let there = fs::metadata(rt, file).ok();
-    let is_plain = there.as_ref().is_none_or(|there| there.is_file());
+    let is_plain = !file.is_empty() && there.as_ref().is_none_or(|there| there.is_file());
     let permissions = there.map(|there| there.permissions());
     let written = match end_of_links(rt, file)? {
         Some(name) if is_plain => {

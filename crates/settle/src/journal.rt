@@ -200,12 +200,12 @@ pub(crate) struct Journal<'a> {
 impl Journal<'_> {
     // The office as it is before the first call.
     pub(crate) fn office(&self, source: &Source<'_>) -> Result<Office, Failure> {
-        office_of(source, self.make.again()?, self.office_lines.as_slice())
+        office_of(source, &self.make, self.office_lines.as_slice())
     }
 }
 
 // The office of these lines, of which the first is the calendar line.
-fn office_of(source: &Source<'_>, make: Make, lines: &[Line]) -> Result<Office, Failure> {
+fn office_of(source: &Source<'_>, make: &Make, lines: &[Line]) -> Result<Office, Failure> {
     let office = OfficeLines {
         source: *source,
         make,
@@ -250,7 +250,7 @@ pub(crate) fn journal_of<'a>(
         .position(|line| ends_office(line.words.as_slice()))
         .unwrap_or(office_lines.len());
     let mut calls = office_lines.split_off(end)?;
-    let office = office_of(source, make.again()?, office_lines.as_slice())?;
+    let office = office_of(source, &make, office_lines.as_slice())?;
     if calls.is_empty() {
         return source.at_line(text.lines().count(), Err(Complaint::Words(NO_BOOK)));
     }

@@ -177,10 +177,10 @@ impl Draft {
 }
 
 // The lines of an office in a file: its calendar line's, and the first words that others may have.
-#[derive(Drop)]
+#[derive(Clone, Copy)]
 pub(crate) struct OfficeLines<'a> {
     pub(crate) source: Source<'a>,
-    pub(crate) make: Make,
+    pub(crate) make: &'a Make,
     pub(crate) expected: &'static str,
 }
 
@@ -188,7 +188,7 @@ impl OfficeLines<'_> {
     // A line after the calendar line.
     fn take_line<'a>(&self, draft: &mut Draft, words: &[&'a str]) -> Result<(), Complaint<'a>> {
         match words {
-            ["exception", ..] => draft.take_exception(&self.make, words),
+            ["exception", ..] => draft.take_exception(self.make, words),
             ["rates", ..] => draft.take_rates(self.source.heap, words),
             ["rate", ..] => draft.publish(words),
             ["arbitrate", ..] => draft.arbitrate(words),
@@ -202,18 +202,23 @@ impl OfficeLines<'_> {
         }
     }
 
-    // The office that the calendar line and these lines after it say.
-    pub(crate) fn office(self, lines: &[Line]) -> Result<Office, Failure> {
-        let heap = self.source.heap;
+    // What these lines after the calendar line say.
+    fn draft(&self, lines: &[Line]) -> Result<Draft, Failure> {
         let mut draft = Draft {
-            exceptions: Vec::new(heap),
+            exceptions: Vec::new(self.source.heap),
             rates: None,
         };
         for Line { number, words } in lines {
             let taken = self.take_line(&mut draft, words.as_slice());
             self.source.at_line(*number, taken)?;
         }
-        Ok(draft.finish(heap, self.make)?)
+        Ok(draft)
+    }
+
+    // The office that the calendar line and these lines after it say; its make stays, for another.
+    pub(crate) fn office(&self, lines: &[Line]) -> Result<Office, Failure> {
+        let draft = self.draft(lines)?;
+        Ok(draft.finish(self.source.heap, self.make.again()?)?)
     }
 }
 
@@ -248,8 +253,9 @@ pub(crate) fn read_office(rt: &HostRuntime, file: &str) -> Result<Office, Failur
     let make = calendar_make(rt, &source, lines.as_slice())?;
     let office = OfficeLines {
         source,
-        make,
+        make: &make,
         expected: OFFICE_WORDS,
     };
-    office.office(lines.get(1..).unwrap_or(&[]))
+    let draft = office.draft(lines.get(1..).unwrap_or(&[]))?;
+    Ok(draft.finish(heap, make)?)
 }
